@@ -8,10 +8,10 @@ use Rattle.named_port.specs.Translator.{between}
 use Rattle.named_wire.specs.Datagram.{datagram_at, datagram_bytes}
 use Rattle.named_wire.specs.declared.head.Head.{Head}
 use Rattle.floor_port.specs.Floors.{floor_bytes, told_in}
-use Rattle.floor_port.specs.Packer.{PackerRecord, after_member, after_next, floor_head, first_bytes, floors_read, new_packer, next_bytes, tells_floors, told_by, unpacked, unpacked_from, with_head}
+use Rattle.floor_port.specs.Packer.{PackerRecord, after_member, after_told, bytes_or, first_bytes, first_of, first_told, floor_head, floors_read, new_packer, tells_floors, told_by, with_head, with_others}
 use Rattle.floor_port.specs.Pace.{PaceRecord, after_heard}
 use Rattle.floor_port.specs.Promises.{Among, HandsIn, IsTold}
-use Rattle.floor_port.specs.Rows.{after_floor, is_news, news}
+use Rattle.floor_port.specs.Rows.{after_floor, after_news, is_news, news}
 use Rattle.floor_port.specs.Runs.{Call, Came, Left, Offer, after, handed, handed_events, may_call, may_make}
 use Rattle.floor_port.specs.declared.floor.NamedFloor.{NamedFloor}
 use Rattle.floor_port.proofs.CallLemmas.{same_start}
@@ -31,8 +31,9 @@ record IsSent (key : List ℕ) (member me : ℕ) (bytes : List ℕ) (told : Head
   to_is : told.0.to ≡ me
   tells : told_in told.0.kind body ≡ Some told.1
 
-sent_parts : (key : List ℕ) (member me : ℕ) (bytes : List ℕ) (told : Head × List NamedFloor) → floors_read (between member me (datagram_at key bytes)) ≡ Some told → IsSent key member me bytes told
-sent_parts key member me bytes told e = by_read (datagram_at key bytes) refl e
+sent_parts : (key : List ℕ) (member me : ℕ) (bytes : List ℕ) (told : Head × List NamedFloor)
+    → cond (tells_floors bytes) (floors_read (between member me (datagram_at key bytes))) None ≡ Some told → IsSent key member me bytes told
+sent_parts key member me bytes told e = by_kind (tells_floors bytes) e
   where
     by_told : (read : Head × List ℕ) → datagram_at key bytes ≡ Some read → (eqb read.0.from member && eqb read.0.to me) ≡ true → (o : Option (List NamedFloor)) → told_in read.0.kind read.1 ≡ o
         → with_head read.0 o ≡ Some told → IsSent key member me bytes told
@@ -55,6 +56,10 @@ sent_parts key member me bytes told e = by_read (datagram_at key bytes) refl e
     by_read : (o : Option (Head × List ℕ)) → datagram_at key bytes ≡ o → floors_read (between member me o) ≡ Some told → IsSent key member me bytes told
     by_read None at is = absurd cc
     by_read (Some read) at is = by_ends read at (eqb read.0.from member && eqb read.0.to me) refl is
+
+    by_kind : (tells : Bool) → cond tells (floors_read (between member me (datagram_at key bytes))) None ≡ Some told → IsSent key member me bytes told
+    by_kind false is = absurd cc
+    by_kind true is = by_read (datagram_at key bytes) refl is
 
 -- ---- news are among the floors
 
@@ -115,40 +120,32 @@ paced p member bytes = go (eqb (length bytes) 0) refl
 
 -- ---- one call
 
--- the first of some floors is handed in, or no bytes
+-- the first of some news is handed in, or the datagram itself
 hands_first : (key : List ℕ) (me : ℕ) (all : List Call) (member : ℕ) (bytes : List ℕ) (head : Head) (floors : List NamedFloor) → Among all (Came (from_member member bytes)) → head.from ≡ member
-    → AreTold key me all head floors → HandsIn key me all (from_member member (first_bytes key head floors))
-hands_first key me all member bytes head [] came from told = inr (inr (inl (record { member = member; datagram = bytes; event_is = refl; came = came })))
+    → AreTold key me all head floors → HandsIn key me all (from_member member (bytes_or (first_of key head floors) bytes))
+hands_first key me all member bytes head [] came from told = inl came
 hands_first key me all member bytes head (floor ∷ floors) came from told =
-    inr (inr (inr (record {
+    inr (inr (record {
       head = head;
       floor = floor;
       is_told = told floor (inl refl);
       event_is = ap (λ (n : ℕ). from_member n (datagram_bytes key head (floor_bytes floor))) (sym from);
-    })))
+    }))
 
-hands_unpacked : (p : PackerRecord) (pace : PaceRecord) (all : List Call) (member : ℕ) (bytes : List ℕ) (told : Option (Head × List NamedFloor)) → told_by p member bytes ≡ told → Among all (Came (from_member member bytes))
-    → HandsIn p.key p.me all (from_member member (next_bytes (unpacked (with_pace p pace) told)))
-hands_unpacked p pace all member bytes None e came = inr (inr (inl (record { member = member; datagram = bytes; event_is = refl; came = came })))
-hands_unpacked p pace all member bytes (Some told) e came =
+hands_told : (p : PackerRecord) (all : List Call) (member : ℕ) (bytes : List ℕ) (told : Option (Head × List NamedFloor)) → told_by p member bytes ≡ told → Among all (Came (from_member member bytes))
+    → HandsIn p.key p.me all (from_member member (bytes_or (first_told p told) bytes))
+hands_told p all member bytes None e came = inl came
+hands_told p all member bytes (Some told) e came =
     let s = sent_parts p.key member p.me bytes told e in
     hands_first p.key p.me all member bytes (floor_head told.0) (news p.rows.names p.rows.known told.1) came s.from_is (told_news p all member bytes told e came)
-
-hands_datagram : (p : PackerRecord) (all : List Call) (member : ℕ) (bytes : List ℕ) (tells : Bool) → Among all (Came (from_member member bytes))
-    → HandsIn p.key p.me all (from_member member (cond tells (next_bytes (unpacked_from p member bytes)) bytes))
-hands_datagram p all member bytes false came = inl came
-hands_datagram p all member bytes true came =
-    let q = paced p member bytes in
-    subst (λ (x : PackerRecord). HandsIn p.key p.me all (from_member member (next_bytes (unpacked x (told_by p member bytes))))) (sym q.is)
-    (hands_unpacked p q.pace all member bytes (told_by p member bytes) refl came)
 
 hands_left : (key : List ℕ) (me : ℕ) (all : List Call) (head : Head) (floors : List NamedFloor) → leb 1 (length floors) ≡ true → AreTold key me all head floors
     → HandsIn key me all (from_member head.from (first_bytes key head floors))
 hands_left key me all head [] some told = absurd (true≢false (sym some))
-hands_left key me all head (floor ∷ floors) some told = inr (inr (inr (record { head = head; floor = floor; is_told = told floor (inl refl); event_is = refl })))
+hands_left key me all head (floor ∷ floors) some told = inr (inr (record { head = head; floor = floor; is_told = told floor (inl refl); event_is = refl }))
 
 hands_one : (p : PackerRecord) (all : List Call) (call : Call) → may_call p call ≡ true → Among all call → AreTold p.key p.me all p.pending.head p.pending.floors → HandsIn p.key p.me all (handed p call)
-hands_one p all (Came (Received (Peer member) bytes)) may made told = hands_datagram p all member bytes (tells_floors bytes) made
+hands_one p all (Came (Received (Peer member) bytes)) may made told = hands_told p all member bytes (told_by p member bytes) refl made
 hands_one p all (Came (Received (Client number) bytes)) may made told = inl made
 hands_one p all (Came Quiet) may made told = inl made
 hands_one p all (Came Faulted) may made told = inl made
@@ -161,23 +158,27 @@ hands_one p all (Offer to bytes) may made told = inr (inl (record { to = to; byt
 abbrev KeepsTold : PackerRecord → List Call → PackerRecord → Type 0
 KeepsTold p all u = AreTold p.key p.me all u.pending.head u.pending.floors
 
-left_unpacked : (p : PackerRecord) (pace : PaceRecord) (all : List Call) (member : ℕ) (bytes : List ℕ) (told : Option (Head × List NamedFloor)) → told_by p member bytes ≡ told → Among all (Came (from_member member bytes))
-    → KeepsTold p all (after_next (unpacked (with_pace p pace) told))
-left_unpacked p pace all member bytes None e came = λ floor h. absurd h
-left_unpacked p pace all member bytes (Some told) e came = λ floor h.
-    told_news p all member bytes told e came floor (rest_among (news p.rows.names p.rows.known told.1) floor h)
+left_others : (p : PackerRecord) (key : List ℕ) (me : ℕ) (all : List Call) (head : Head) (floors : List NamedFloor) → AreTold key me all p.pending.head p.pending.floors → AreTold key me all head floors
+    → AreTold key me all (with_others p head floors).pending.head (with_others p head floors).pending.floors
+left_others p key me all head [] old told = old
+left_others p key me all head (one ∷ floors) old told = λ floor h. told floor (inr h)
 
-left_datagram : (p : PackerRecord) (all : List Call) (member : ℕ) (bytes : List ℕ) (tells : Bool) → Among all (Came (from_member member bytes)) → AreTold p.key p.me all p.pending.head p.pending.floors
-    → KeepsTold p all (cond tells (after_next (unpacked_from p member bytes)) (after_member p member bytes))
-left_datagram p all member bytes false came told =
-    let q = paced p member bytes in subst (KeepsTold p all) (sym q.is) told
-left_datagram p all member bytes true came told =
+left_told : (p : PackerRecord) (pace : PaceRecord) (all : List Call) (member : ℕ) (bytes : List ℕ) (told : Option (Head × List NamedFloor)) → told_by p member bytes ≡ told → Among all (Came (from_member member bytes))
+    → AreTold p.key p.me all p.pending.head p.pending.floors → KeepsTold p all (after_told (with_pace p pace) told)
+left_told p pace all member bytes None e came old = old
+left_told p pace all member bytes (Some told) e came old =
+    left_others (record (with_pace p pace) { rows = after_news p.rows told.1 }) p.key p.me all (floor_head told.0) (news p.rows.names p.rows.known told.1) old
+    (told_news p all member bytes told e came)
+
+left_datagram : (p : PackerRecord) (all : List Call) (member : ℕ) (bytes : List ℕ) → Among all (Came (from_member member bytes)) → AreTold p.key p.me all p.pending.head p.pending.floors
+    → KeepsTold p all (after_told (after_member p member bytes) (told_by p member bytes))
+left_datagram p all member bytes came told =
     let q = paced p member bytes in
-    subst (λ (x : PackerRecord). KeepsTold p all (after_next (unpacked x (told_by p member bytes)))) (sym q.is)
-    (left_unpacked p q.pace all member bytes (told_by p member bytes) refl came)
+    subst (λ (x : PackerRecord). KeepsTold p all (after_told x (told_by p member bytes))) (sym q.is)
+    (left_told p q.pace all member bytes (told_by p member bytes) refl came told)
 
 left_one : (p : PackerRecord) (all : List Call) (call : Call) → Among all call → AreTold p.key p.me all p.pending.head p.pending.floors → KeepsTold p all (after p call)
-left_one p all (Came (Received (Peer member) bytes)) made told = left_datagram p all member bytes (tells_floors bytes) made told
+left_one p all (Came (Received (Peer member) bytes)) made told = left_datagram p all member bytes made told
 left_one p all (Came (Received (Client number) bytes)) made told = told
 left_one p all (Came Quiet) made told = told
 left_one p all (Came Faulted) made told = told

@@ -5,3 +5,4 @@ pub mod CallLemmas
 pub mod HandLemmas
 pub mod ToldLemmas
 pub mod SpellingLemmas
+pub mod SetupLemmas

@@ -9,10 +9,10 @@ use Rattle.datagram_port.specs.declared.port.Sender.TheVariants.{Client, Peer}
 use Rattle.named_port.specs.Names.{number_of}
 use Rattle.named_wire.specs.declared.head.Head.{Head}
 use Rattle.floor_port.specs.Floors.{floors_body}
-use Rattle.floor_port.specs.Packer.{PackerRecord, after_member, after_next, body_offers, floors_datagram, member_offer, new_packer, tells_floors, told_by, turn_offers, turns_due, unpacked, unpacked_from}
+use Rattle.floor_port.specs.Packer.{PackerRecord, after_member, after_told, body_offers, floor_head, floors_datagram, member_offer, new_packer, told_by, turn_offers, turns_due, with_others}
 use Rattle.floor_port.specs.Pace.{after_heard}
 use Rattle.floor_port.specs.Promises.{Among, IsOwnFloor, IsWitnessed, TellsFloors}
-use Rattle.floor_port.specs.Rows.{RowsRecord, after_floor, after_floors, after_turn, after_turns, after_witness, named_floors, next_floors, raised}
+use Rattle.floor_port.specs.Rows.{RowsRecord, after_floor, after_floors, after_news, after_turn, after_turns, after_witness, named_floors, news, next_floors, raised}
 use Rattle.floor_port.specs.Runs.{Call, Came, Left, Offer, after, after_calls, below, below_events, may_call, may_make}
 use Rattle.floor_port.specs.Witness.{witness_of}
 use Rattle.floor_port.specs.declared.floor.NamedFloor.{NamedFloor}
@@ -67,13 +67,25 @@ member_rows p member bytes = go (eqb (length bytes) 0)
     go true = refl
     go false = refl
 
-unpacked_rise : (p : PackerRecord) (told : Option (Head × List NamedFloor)) → HaveRisen p.rows (unpacked p told).rows
-unpacked_rise p None = same_rise p.rows
-unpacked_rise p (Some told) = record { told = λ row. omega arith; known = λ row. all_rise p.rows.names p.rows.known told.1 row }
+-- the news that are left change no row
+others_rows : (p : PackerRecord) (head : Head) (others : List NamedFloor) → (with_others p head others).rows ≡ p.rows
+others_rows p head [] = refl
+others_rows p head (one ∷ others) = refl
 
-datagram_rise : (p : PackerRecord) (member : ℕ) (bytes : List ℕ) (tells : Bool) → HaveRisen p.rows (cond tells (after_next (unpacked_from p member bytes)) (after_member p member bytes)).rows
-datagram_rise p member bytes true = subst (λ (rows : RowsRecord). HaveRisen rows (unpacked_from p member bytes).rows) (member_rows p member bytes) (unpacked_rise (after_member p member bytes) (told_by p member bytes))
-datagram_rise p member bytes false = subst (HaveRisen p.rows) (sym (member_rows p member bytes)) (same_rise p.rows)
+news_rows : (p : PackerRecord) (told : Head × List NamedFloor) → (after_told p (Some told)).rows ≡ after_news p.rows told.1
+news_rows p told = others_rows (record p { rows = after_news p.rows told.1 }) (floor_head told.0) (news p.rows.names p.rows.known told.1)
+
+news_rise : (rows : RowsRecord) (floors : List NamedFloor) → HaveRisen rows (after_news rows floors)
+news_rise rows floors = record { told = λ row. omega arith; known = λ row. all_rise rows.names rows.known floors row }
+
+floors_rise : (p : PackerRecord) (told : Option (Head × List NamedFloor)) → HaveRisen p.rows (after_told p told).rows
+floors_rise p None = same_rise p.rows
+floors_rise p (Some told) = subst (HaveRisen p.rows) (sym (news_rows p told)) (news_rise p.rows told.1)
+
+datagram_rise : (p : PackerRecord) (member : ℕ) (bytes : List ℕ) → HaveRisen p.rows (after_told (after_member p member bytes) (told_by p member bytes)).rows
+datagram_rise p member bytes =
+    subst (λ (rows : RowsRecord). HaveRisen rows (after_told (after_member p member bytes) (told_by p member bytes)).rows) (member_rows p member bytes)
+    (floors_rise (after_member p member bytes) (told_by p member bytes))
 
 witness_rise : (rows : RowsRecord) (floor : Option NamedFloor) → HaveRisen rows (after_witness rows floor)
 witness_rise rows None = same_rise rows
@@ -83,7 +95,7 @@ witness_rise rows (Some floor) = record {
 }
 
 call_rise : (p : PackerRecord) (call : Call) → HaveRisen p.rows (after p call).rows
-call_rise p (Came (Received (Peer member) bytes)) = datagram_rise p member bytes (tells_floors bytes)
+call_rise p (Came (Received (Peer member) bytes)) = datagram_rise p member bytes
 call_rise p (Came (Received (Client number) bytes)) = same_rise p.rows
 call_rise p (Came Quiet) = turns_rise p.rows (turns_due p)
 call_rise p (Came Faulted) = same_rise p.rows
@@ -146,16 +158,15 @@ turns_told : (rows : RowsRecord) (turns : ℕ) → (after_turns rows turns).told
 turns_told rows zero = refl
 turns_told rows (suc turns) = turns_told (after_turn rows) turns
 
-unpacked_told : (p : PackerRecord) (told : Option (Head × List NamedFloor)) → (unpacked p told).rows.told ≡ p.rows.told
-unpacked_told p None = refl
-unpacked_told p (Some told) = refl
+floors_told : (p : PackerRecord) (told : Option (Head × List NamedFloor)) → (after_told p told).rows.told ≡ p.rows.told
+floors_told p None = refl
+floors_told p (Some told) = ap (λ (rows : RowsRecord). rows.told) (news_rows p told)
 
-datagram_told : (p : PackerRecord) (member : ℕ) (bytes : List ℕ) (tells : Bool) → (cond tells (after_next (unpacked_from p member bytes)) (after_member p member bytes)).rows.told ≡ p.rows.told
-datagram_told p member bytes true = unpacked_told (after_member p member bytes) (told_by p member bytes) ∙ ap (λ (rows : RowsRecord). rows.told) (member_rows p member bytes)
-datagram_told p member bytes false = ap (λ (rows : RowsRecord). rows.told) (member_rows p member bytes)
+datagram_told : (p : PackerRecord) (member : ℕ) (bytes : List ℕ) → (after_told (after_member p member bytes) (told_by p member bytes)).rows.told ≡ p.rows.told
+datagram_told p member bytes = floors_told (after_member p member bytes) (told_by p member bytes) ∙ ap (λ (rows : RowsRecord). rows.told) (member_rows p member bytes)
 
 own_one : (p : PackerRecord) (floors : List ℕ) (all : List Call) (call : Call) → Among all call → AreOwn p.rows.names floors all p.rows.told → AreOwn p.rows.names floors all (after p call).rows.told
-own_one p floors all (Came (Received (Peer member) bytes)) made own = subst (AreOwn p.rows.names floors all) (sym (datagram_told p member bytes (tells_floors bytes))) own
+own_one p floors all (Came (Received (Peer member) bytes)) made own = subst (AreOwn p.rows.names floors all) (sym (datagram_told p member bytes)) own
 own_one p floors all (Came (Received (Client number) bytes)) made own = own
 own_one p floors all (Came Quiet) made own = subst (AreOwn p.rows.names floors all) (sym (turns_told p.rows (turns_due p))) own
 own_one p floors all (Came Faulted) made own = own

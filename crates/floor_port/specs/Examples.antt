@@ -1,6 +1,7 @@
 -- A node with a book of three tokens, and what a member tells it. The tags are by Python's hmac.
-use Rattle.std.specs.Prelude.{ℕ, List, [], ◌∷◌, ◌++◌, replicate}
+use Rattle.std.specs.Prelude.{ℕ, true, false, List, [], ◌∷◌, ◌++◌, replicate, None}
 use Rattle.datagram_port.specs.Port.{PortEvent, Received}
+use Rattle.datagram_port.specs.Setup.{Setup}
 use Rattle.datagram_port.specs.declared.port.Sender.TheVariants.{Peer}
 use Rattle.named_wire.specs.declared.head.Head.{Head}
 use Rattle.named_wire.specs.declared.head.Kind.{Kind}
@@ -88,3 +89,8 @@ ask_upto last = head_bytes_of 1 ++ name_with 0xaa ++ replicate 25 0 ++ last ++ r
 -- a datagram comes from member 1
 abbrev pub from_1 : List ℕ → PortEvent
 from_1 bytes = Received (Peer 1) bytes
+
+-- the setup of a port without members, a gate and names
+abbrev pub bare_setup : Setup
+bare_setup =
+    record { members = []; skips_answers = true; takes_loopback_alone = false; gate = None; namings = [] }

@@ -5,4 +5,5 @@ pub mod Pace
 pub mod Packer
 pub mod Runs
 pub mod Promises
+pub mod Setup
 pub mod Examples

@@ -62,21 +62,37 @@ abbrev pub floors_read : Option (Head × List ℕ) → Option (Head × List Name
 floors_read None = None
 floors_read (Some read) = with_head read.0 (told_in read.0.kind read.1)
 
--- the head and the floors of a datagram that `member` sent to the node, if its tag is right
+-- the head and the floors of a datagram that `member` sent to the node, if it tells floors and its tag is right
 abbrev pub told_by : PackerRecord → ℕ → List ℕ → Option (Head × List NamedFloor)
-told_by packer member bytes = floors_read (between member packer.me (datagram_at packer.key bytes))
+told_by packer member bytes =
+    if tells_floors bytes then floors_read (between member packer.me (datagram_at packer.key bytes)) else None
 
 -- the head of the datagram of one floor
 abbrev pub floor_head : Head → Head
 floor_head head = record head { kind = Floor }
 
--- the packer with the news of a datagram to hand in
-abbrev pub unpacked : PackerRecord → Option (Head × List NamedFloor) → PackerRecord
-unpacked packer None = record packer { pending = record packer.pending { floors = [] } }
-unpacked packer (Some told) = record packer {
-  rows = after_news packer.rows told.1;
-  pending = record { head = floor_head told.0; floors = news packer.rows.names packer.rows.known told.1 };
-}
+-- the datagram of the first of some news, if there are any
+abbrev pub first_of : List ℕ → Head → List NamedFloor → Option (List ℕ)
+first_of key head [] = None
+first_of key head (floor ∷ floors) = Some (datagram_bytes key head (floor_bytes floor))
+
+-- the packer with all news but the first left to hand in, if there are news
+abbrev pub with_others : PackerRecord → Head → List NamedFloor → PackerRecord
+with_others packer head [] = packer
+with_others packer head (floor ∷ floors) = record packer { pending = record { head = head; floors = floors } }
+
+-- the datagram of the first of the floors told that are news, if there are any
+abbrev pub first_told : PackerRecord → Option (Head × List NamedFloor) → Option (List ℕ)
+first_told packer None = None
+first_told packer (Some told) =
+    first_of packer.key (floor_head told.0) (news packer.rows.names packer.rows.known told.1)
+
+-- the packer after floors were told: the other news are left to hand in
+abbrev pub after_told : PackerRecord → Option (Head × List NamedFloor) → PackerRecord
+after_told packer None = packer
+after_told packer (Some told) =
+    with_others (record packer { rows = after_news packer.rows told.1 }) (floor_head told.0)
+    (news packer.rows.names packer.rows.known told.1)
 
 -- the datagram of the first of the floors, or no bytes if there is none
 abbrev pub first_bytes : List ℕ → Head → List NamedFloor → List ℕ
@@ -97,15 +113,15 @@ after_member packer member bytes =
     if length bytes == 0 then packer
     else record packer { pace = after_heard packer.pace member (length packer.rows.told) }
 
--- the packer with the news of a member's datagram
-abbrev pub unpacked_from : PackerRecord → ℕ → List ℕ → PackerRecord
-unpacked_from packer member bytes =
-    unpacked (after_member packer member bytes) (told_by packer member bytes)
+-- the first bytes if there are any, else the others
+abbrev pub bytes_or : Option (List ℕ) → List ℕ → List ℕ
+bytes_or None others = others
+bytes_or (Some first) others = first
 
--- the bytes that are handed in for a member's datagram
+-- The bytes that are handed in for a member's datagram: the datagram of the first of its news, or the same bytes if it
+-- has no news.
 abbrev pub member_bytes : PackerRecord → ℕ → List ℕ → List ℕ
-member_bytes packer member bytes =
-    if tells_floors bytes then next_bytes (unpacked_from packer member bytes) else bytes
+member_bytes packer member bytes = bytes_or (first_told packer (told_by packer member bytes)) bytes
 
 -- the event that is handed to the node for an event of the port below
 abbrev pub handed_in : PackerRecord → PortEvent → PortEvent
@@ -161,7 +177,7 @@ after_quiet_turn packer = record packer {
 -- the packer after an event of the port below
 abbrev pub after_event : PackerRecord → PortEvent → PackerRecord
 after_event packer (Received (Peer member) bytes) =
-    if tells_floors bytes then after_next (unpacked_from packer member bytes) else after_member packer member bytes
+    after_told (after_member packer member bytes) (told_by packer member bytes)
 after_event packer (Received (Client number) bytes) = packer
 after_event packer Quiet = after_quiet_turn packer
 after_event packer Faulted = packer

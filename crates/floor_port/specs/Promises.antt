@@ -41,13 +41,6 @@ pub record IsOwnOffer (calls : List Call) (event : PortEvent) : Type 0 where
   pub event_is : event ≡ Offered to bytes
   pub is_offered : Among calls (Offer to bytes)
 
--- a datagram without bytes of a member from which the port below received one
-pub record IsEmptied (calls : List Call) (event : PortEvent) : Type 0 where
-  pub member : ℕ
-  pub datagram : List ℕ
-  pub event_is : event ≡ Received (Peer member) []
-  pub came : Among calls (Came (Received (Peer member) datagram))
-
 -- the datagram of one floor that a member told
 pub record IsFloorHanded (key : List ℕ) (me : ℕ) (calls : List Call) (event : PortEvent) : Type 0 where
   pub head : Head
@@ -55,11 +48,10 @@ pub record IsFloorHanded (key : List ℕ) (me : ℕ) (calls : List Call) (event 
   pub is_told : IsTold key me calls head floor
   pub event_is : event ≡ Received (Peer head.from) (datagram_bytes key head (floor_bytes floor))
 
--- An event of a node's port: one that the port below received, an offer of the node, a datagram without bytes, or a
--- floor that a member told.
+-- an event of a node's port: one that the port below received, an offer of the node, or a floor that a member told
 abbrev pub HandsIn : List ℕ → ℕ → List Call → PortEvent → Type 0
 HandsIn key me calls event =
-    Among calls (Came event) ⊎ (IsOwnOffer calls event ⊎ (IsEmptied calls event ⊎ IsFloorHanded key me calls event))
+    Among calls (Came event) ⊎ (IsOwnOffer calls event ⊎ IsFloorHanded key me calls event)
 
 -- ---- what is offered
 

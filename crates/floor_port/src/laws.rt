@@ -15,7 +15,7 @@ pub fn floors_one_spelling()
 {}
 
 /// Floors that are handed in: each event that the port hands in is one that the port below received, an offer of the
-/// node, a datagram without bytes of a member that was received from, or a floor that a member told under the key.
+/// node, or a floor that a member told under the key.
 pub fn what_is_handed_in_was_told()
     ensures { (key : List ℕ) (names : List (List ℕ)) (me boot members : ℕ) (floors : List ℕ) (calls : List Call)
         (event : PortEvent) → may_make (new_packer key names me boot members floors) calls ≡ true →

@@ -2,8 +2,8 @@
 //!
 //! A [`FloorPort`] is a node's port over another one. On both sides the datagrams of members are of version 3, under
 //! the cluster's key. At each quiet turn the port tells the other members floors that its node bears witness to. It
-//! unpacks what members tell: it hands in each floor that is news as one datagram. If none of the floors of a datagram
-//! is news, the datagram is handed in without bytes, and the node drops it. All other datagrams pass unchanged.
+//! unpacks what members tell: of a datagram with news it hands in each floor that is news as one datagram. All other
+//! datagrams pass unchanged, also those that tell no news, and those whose tag is wrong.
 #![tactic(auto)]
 
 mod body;
@@ -30,5 +30,6 @@ pub use port::FloorPort;
 pub use witness::witness_of;
 pub use worked::{
     bodies_are_worked, calls_are_worked, calls_can_be_broken, offers_are_worked, paces_are_worked,
-    packers_are_worked, promises_can_be_broken, rows_are_worked, witnesses_are_worked,
+    packers_are_worked, promises_can_be_broken, rows_are_worked, setups_are_worked,
+    setups_can_be_broken, witnesses_are_worked,
 };

@@ -177,6 +177,9 @@ impl<'k> Packer<'k> {
     fn told_by(&self, member: u8, bytes: &[u8]) -> Option<(Head, ArrayVec<NamedFloor, MAX_FLOORS>)>
         ensures { option_map (λ told. (told.0, told.1.items)) result ≡ spec.told_by self.now member bytes.now }
     {
+        if !tells_floors(bytes) {
+            return None;
+        }
         let (head, body) = read_datagram(self.key, bytes)?;
         if head.from != member || head.to != self.me {
             return None;
@@ -185,24 +188,43 @@ impl<'k> Packer<'k> {
         Some((head, floors))
     }
 
-    /// Replaces the floors that are left by the news of a member's datagram.
-    fn unpack(&mut self, member: u8, bytes: &[u8])
-        ensures { self.new ≡ spec.unpacked self.old (spec.told_by self.old member bytes.now) }
+    /// Returns the datagram of the first of the floors told that are news, or None. The other news are left to hand in.
+    fn take_told(
+        &mut self,
+        head: Head,
+        floors: &[NamedFloor],
+    ) -> Option<ArrayVec<u8, MAX_DATAGRAM_LEN>>
+        requires { length floors.now ≤ 20 }
+        ensures first { option_map (λ bytes. bytes.items) result
+            ≡ spec.first_told self.old (Some (head, floors.now)) }
+        ensures after { self.new ≡ spec.after_told self.old (Some (head, floors.now)) }
     {
-        let Some((head, floors)) = self.told_by(member, bytes) else {
-            self.pending.floors.clear();
-            return;
+        let head = Head {
+            kind: Kind::Floor,
+            ..head
         };
-        self.pending = Pending {
-            head: Head {
-                kind: Kind::Floor,
-                ..head
-            },
-            floors: self.rows.take_news(&floors),
-        };
+        let mut news = self.rows.take_news(floors);
+        let first = news.pop_at(0)?;
+        self.pending = Pending { head, floors: news };
+        Some(write_datagram(self.key, head, &floor_body(first)))
     }
 
-    /// Takes a datagram of a member, and hands in what becomes of it.
+    /// Notes that `member` was heard, and returns the datagram of the first of the news that it tells, or None. The other
+    /// news are left to hand in.
+    fn unpack(&mut self, member: u8, bytes: &[u8]) -> Option<ArrayVec<u8, MAX_DATAGRAM_LEN>>
+        ensures first { option_map (λ bytes. bytes.items) result
+            ≡ spec.first_told self.old (spec.told_by self.old member bytes.now) }
+        ensures after { self.new ≡ spec.after_told (spec.after_member self.old member bytes.now)
+            (spec.told_by self.old member bytes.now) }
+    {
+        if !bytes.is_empty() {
+            self.pace.note_heard(member, self.rows.len());
+        }
+        let (head, floors) = self.told_by(member, bytes)?;
+        self.take_told(head, &floors)
+    }
+
+    /// Takes a datagram of a member, and hands in the first of its news, or the same datagram if it has none.
     pub(crate) fn take(&mut self, member: u8, len: usize, buffer: &mut [u8; 512]) -> Received
         requires { len ≤ 512 }
         ensures within { IsWithin result }
@@ -212,14 +234,12 @@ impl<'k> Packer<'k> {
         ensures after { self.new ≡ spec.after_event self.old (ReceivedEvent (Peer member) (take len buffer.old)) }
     {
         let sender = Sender::Peer(member);
-        if len > 0 {
-            self.pace.note_heard(member, self.rows.len());
-        }
-        if !tells_floors(&buffer[..len]) {
+        let Some(bytes) = self.unpack(member, &buffer[..len]) else {
             return Received::Datagram { sender, len };
-        }
-        self.unpack(member, &buffer[..len]);
-        self.hand_in(sender, buffer)
+        };
+        let len = bytes.len();
+        buffer[..len].copy_from_slice(&bytes);
+        Received::Datagram { sender, len }
     }
 
     /// Notes what the node bears witness to by an offer.

@@ -7,6 +7,7 @@ ghost use Rattle.datagram_port.specs.declared.port.Received.TheVariants.{Quiet};
 ghost use Rattle.floor_port.specs.Packer.{after_event, body_offers, handed_in, member_offer, new_packer, told_at};
 ghost use Rattle.floor_port.specs.Packer as spec;
 ghost use Rattle.floor_port.specs.Runs.{IsAfter, at_start, handed_events};
+ghost use Rattle.floor_port.specs.Setup.{telling_setup};
 
 use crate::packer::{Membership, Packer};
 use crate::record::Record;
@@ -140,10 +141,11 @@ impl<'k, P: Port + Drop> FloorPort<'k, P> {
 impl<P: Port + Drop> Port for FloorPort<'_, P> {
     ghost use Rattle.std.specs.Prelude.{Some};
     ghost use Rattle.floor_port.specs.Runs.{at_start, handed_events};
+    ghost use Rattle.floor_port.specs.Setup.{telling_setup};
 
     ghost events = { λ port. Some (handed_events (at_start port.packer port.calls.floors) port.calls.calls) };
 
-    ghost setup = { λ port. P.setup port.port };
+    ghost setup = { λ port. telling_setup port.packer port.calls.floors (P.setup port.port) };
 
     fn receive(&mut self, buffer: &mut [u8; 512]) -> Received
         ensures within { IsWithin result }
@@ -151,7 +153,8 @@ impl<P: Port + Drop> Port for FloorPort<'_, P> {
             (Some (handed_events (at_start self.old.packer self.old.calls.floors) self.old.calls.calls))
             (Some (handed_events (at_start self.new.packer self.new.calls.floors) self.new.calls.calls))
             (event_of_receive result buffer.new ∷ []) }
-        ensures stays { P.setup self.new.port ≡ P.setup self.old.port }
+        ensures stays { telling_setup self.new.packer self.new.calls.floors (P.setup self.new.port)
+            ≡ telling_setup self.old.packer self.old.calls.floors (P.setup self.old.port) }
     {
         if let Some(sender) = self.packer.pending_from() {
             self.calls.note_left();

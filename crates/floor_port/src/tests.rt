@@ -6,7 +6,7 @@ ghost use Rattle.datagram_port.specs.Port.{IsWithin};
 use crate::{FloorPort, Membership, NamedFloor, floors_body, floors_told};
 use datagram_port::{Coming, ListPort, Port, PortEntry, Received, Sender};
 use named_port::Names;
-use named_wire::{Head, Kind, read_datagram, write_datagram};
+use named_wire::{Head, Kind, MAX_DATAGRAM_LEN, read_datagram, write_datagram};
 use otp_core::{MAX_TOKENS, Next, Settings};
 use std::alloc::Global;
 use std::test::Fail;
@@ -130,7 +130,7 @@ fn floors(alloc: Global, nexts: [u64; 3]) -> Result<Vec<u8>, Fail> {
         };
     }
     let body = floors_body(&floors);
-    Ok(write_datagram(&key()?, head(Kind::Floors), &body).to_vec(alloc)?)
+    Ok(write_datagram::<MAX_DATAGRAM_LEN>(&key()?, head(Kind::Floors), &body).to_vec(alloc)?)
 }
 
 /// A datagram from member 1.
@@ -191,12 +191,12 @@ fn news_are_handed_in(rt: HostRuntime) -> Result<(), Fail> {
     let len = len_of(port.poll(&mut buffer).ok_or("a floor is left")?)?;
     assert!(rt; told(&buffer[..len])? == third);
     let len = len_of(port.receive(&mut buffer))?;
-    assert!(rt; len == 0);
+    assert!(rt; &buffer[..len] == datagram.as_slice());
     assert!(rt; port.poll(&mut buffer).is_none());
     Ok(())
 }
 
-/// A Floor is handed in where it is news, and without bytes where it isn't, or has another sender.
+/// A Floor is handed in as it came: where it is news, where it isn't, and where it has another sender.
 #[test]
 fn single_floors(rt: HostRuntime) -> Result<(), Fail> {
     let alloc = rt.alloc();
@@ -207,9 +207,9 @@ fn single_floors(rt: HostRuntime) -> Result<(), Fail> {
     let mut body = [0; 24];
     body[..16].copy_from_slice(&name_at(&list, 1)?.bytes());
     body[23] = 7;
-    let told_7 = write_datagram(&key, head(Kind::Floor), &body).to_vec(alloc)?;
+    let told_7 = write_datagram::<MAX_DATAGRAM_LEN>(&key, head(Kind::Floor), &body).to_vec(alloc)?;
     body[23] = 5;
-    let told_5 = write_datagram(&key, head(Kind::Floor), &body).to_vec(alloc)?;
+    let told_5 = write_datagram::<MAX_DATAGRAM_LEN>(&key, head(Kind::Floor), &body).to_vec(alloc)?;
     let comings = [
         from_1(&told_5),
         from_1(&told_7),
@@ -221,15 +221,18 @@ fn single_floors(rt: HostRuntime) -> Result<(), Fail> {
     ];
     let mut port = port_over(alloc, &comings, &key, &names, &[floor; 3])?;
     let mut buffer = [0; 512];
-    assert!(rt; len_of(port.receive(&mut buffer))? == 0);
+    let len = len_of(port.receive(&mut buffer))?;
+    assert!(rt; &buffer[..len] == told_5.as_slice());
     let len = len_of(port.receive(&mut buffer))?;
     assert!(rt; &buffer[..len] == told_7.as_slice());
-    let without = Received::Datagram {
+    let from_3 = Received::Datagram {
         sender: Sender::Peer(3),
-        len: 0,
+        len: 54,
     };
-    assert!(rt; port.receive(&mut buffer) == without);
-    assert!(rt; len_of(port.receive(&mut buffer))? == 0);
+    assert!(rt; port.receive(&mut buffer) == from_3);
+    assert!(rt; &buffer[..54] == told_7.as_slice());
+    let len = len_of(port.receive(&mut buffer))?;
+    assert!(rt; &buffer[..len] == told_7.as_slice());
     Ok(())
 }
 
@@ -251,7 +254,12 @@ fn floors_are_told(rt: HostRuntime) -> Result<(), Fail> {
         to: 3,
         boot: 5,
     };
-    assert!(rt; port.send(Sender::Peer(3), &write_datagram(&key, own, &body)));
+    assert!(rt;
+        port.send(
+            Sender::Peer(3),
+            &write_datagram::<MAX_DATAGRAM_LEN>(&key, own, &body)
+        )
+    );
     let mut buffer = [0; 512];
     assert!(rt; port.receive(&mut buffer) == Received::Quiet);
     let below = port.into_inner();

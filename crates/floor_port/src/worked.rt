@@ -3,13 +3,14 @@ ghost use Rattle.datagram_port.specs.Port.{Faulted, Offered, Quiet, Received};
 ghost use Rattle.datagram_port.specs.declared.port.Sender.TheVariants.{Client, Peer};
 ghost use Rattle.named_wire.specs.declared.head.Kind.TheVariants.{Ask, Deny, Floor, Floors, Grant};
 ghost use Rattle.vote_wire.specs.Examples.{eight_bytes};
-ghost use Rattle.floor_port.specs.Examples.{ask_upto, body_of_two, book, deny_of_9, floor_of, from_1, head_with, left_of_1, name_with, node_2, node_2_with, one_floor, pace_with, rows_with, two_floors, zeros};
+ghost use Rattle.floor_port.specs.Examples.{ask_upto, bare_setup, body_of_two, book, deny_of_9, floor_of, from_1, head_with, left_of_1, name_with, node_2, node_2_with, one_floor, pace_with, rows_with, two_floors, zeros};
 ghost use Rattle.floor_port.specs.Floors.{IsBodyOf, floors_at, floors_body, is_body, told_in};
 ghost use Rattle.floor_port.specs.Pace.{after_heard, after_quiet, due, new_pace, round_of};
-ghost use Rattle.floor_port.specs.Packer.{after_event, after_next, after_offer, body_offers, floors_datagram, handed_in, next_bytes, told_at, told_by, turn_offers, unpacked};
+ghost use Rattle.floor_port.specs.Packer.{after_event, after_next, after_offer, after_told, body_offers, first_told, floors_datagram, handed_in, new_packer, next_bytes, told_at, told_by, turn_offers};
 ghost use Rattle.floor_port.specs.Promises.{HandsIn, IsOwnFloor, TellsFloors};
 ghost use Rattle.floor_port.specs.Rows.{after_floor, after_floors, after_turn, is_news, new_rows, news, next_floors, turns_of};
 ghost use Rattle.floor_port.specs.Runs.{Came, IsAfter, Left, Offer, at_start, below_events, handed_events, may_call, may_make};
+ghost use Rattle.floor_port.specs.Setup.{telling_setup};
 ghost use Rattle.floor_port.specs.Witness.{witness_of};
 
 /// Worked cases. Bodies of floors, and bytes that are none.
@@ -107,14 +108,32 @@ pub fn packers_are_worked()
       pending = left_of_1 (floor_of 0xcc 9 ∷ []);
     } }
     ensures single { handed_in node_2 (from_1 one_floor) ≡ from_1 one_floor }
-    ensures no_news { handed_in (after_next (after_event node_2 (from_1 two_floors))) (from_1 one_floor) ≡ from_1 [] }
-    ensures no_news_of_two { handed_in (after_next (after_event node_2 (from_1 two_floors))) (from_1 two_floors)
-        ≡ from_1 [] }
+    ensures single_left { after_event node_2 (from_1 one_floor) ≡ record node_2 {
+      rows = rows_with (replicate 3 5) (6 ∷ 5 ∷ 5 ∷ []) 0;
+      pace = pace_with 25 1;
+      pending = left_of_1 [];
+    } }
+    ensures second { handed_in (record node_2 { rows = rows_with [] (6 ∷ 5 ∷ 5 ∷ []) 0 }) (from_1 two_floors)
+        ≡ from_1 (next_bytes (node_2_with (floor_of 0xcc 9))) }
+    ensures no_news { handed_in (record node_2 { rows = rows_with [] (6 ∷ 5 ∷ 5 ∷ []) 0 }) (from_1 one_floor)
+        ≡ from_1 one_floor }
+    ensures no_news_of_two { handed_in (after_event node_2 (from_1 two_floors)) (from_1 two_floors)
+        ≡ from_1 two_floors }
+    ensures no_news_left { map (after_event (after_event node_2 (from_1 two_floors)))
+        (from_1 two_floors ∷ from_1 one_floor ∷ [])
+        ≡ replicate 2 (after_event node_2 (from_1 two_floors)) }
+    ensures another_tag { handed_in (record node_2 { key = replicate 32 1 }) (from_1 two_floors) ≡ from_1 two_floors }
+    ensures another_tag_left { after_event (record node_2 { key = replicate 32 1 }) (from_1 two_floors)
+        ≡ record node_2 { key = replicate 32 1; pace = pace_with 25 1 } }
+    ensures another_sender { handed_in node_2 (Received (Peer 3) two_floors) ≡ Received (Peer 3) two_floors }
+    ensures other_names { map (λ byte. handed_in (record node_2 { rows = new_rows (name_with byte ∷ []) (5 ∷ []) })
+        (from_1 two_floors)) (0xcc ∷ 0xdd ∷ [])
+        ≡ from_1 (next_bytes (node_2_with (floor_of 0xcc 9))) ∷ from_1 two_floors ∷ [] }
     ensures next { next_bytes (record node_2 { pending = left_of_1 [] }) ≡ [] }
     ensures after_next { after_next (record node_2 { pending = left_of_1 (floor_of 0xaa 6 ∷ floor_of 0xcc 9 ∷ []) })
         ≡ record node_2 { pending = left_of_1 (floor_of 0xcc 9 ∷ []) } }
-    ensures untold { unpacked (node_2_with (floor_of 0xcc 9)) None
-        ≡ record node_2 { pending = left_of_1 [] } }
+    ensures untold { first_told node_2 None ≡ None }
+    ensures untold_left { after_told (node_2_with (floor_of 0xcc 9)) None ≡ node_2_with (floor_of 0xcc 9) }
     ensures votes { map (handed_in node_2) (from_1 deny_of_9 ∷ from_1 [] ∷ []) ≡ from_1 deny_of_9 ∷ from_1 [] ∷ [] }
     ensures unchanged { map (handed_in node_2)
         (Received (Client 1) one_floor ∷ Quiet ∷ Faulted ∷ Offered (Peer 1) one_floor ∷ [])
@@ -148,7 +167,7 @@ pub fn calls_are_worked()
     ensures handed { handed_events node_2
         (Came (from_1 two_floors) ∷ Offer (Client 1) [] ∷ Left ∷ Came (from_1 two_floors) ∷ Came Quiet ∷ [])
         ≡ from_1 one_floor ∷ Offered (Client 1) [] ∷ from_1 (next_bytes (node_2_with (floor_of 0xcc 9)))
-        ∷ from_1 [] ∷ Quiet ∷ [] }
+        ∷ from_1 two_floors ∷ Quiet ∷ [] }
     ensures below { below_events node_2 (Came Faulted ∷ Left ∷ Offer (Peer 1) [] ∷ Came (from_1 []) ∷ [])
         ≡ Faulted ∷ Offered (Peer 1) [] ∷ from_1 [] ∷ [] }
     ensures below_quiet { below_events node_2 (Came Quiet ∷ []) ≡ Quiet ∷ told_at node_2 Quiet }
@@ -173,12 +192,42 @@ pub fn calls_can_be_broken()
 pub fn promises_can_be_broken()
     ensures received { HandsIn zeros 2 (Came Quiet ∷ Came Faulted ∷ []) Faulted }
     ensures offered { HandsIn zeros 2 (Offer (Peer 1) [] ∷ []) (Offered (Peer 1) []) }
-    ensures emptied { HandsIn zeros 2 (Came (from_1 one_floor) ∷ []) (from_1 []) }
+    ensures told { HandsIn zeros 2 (Came (from_1 two_floors) ∷ []) (from_1 one_floor) }
     ensures not_received { HandsIn zeros 2 [] (from_1 one_floor) → ⊥ }
-    ensures emptied_for_another { HandsIn zeros 2 (Came (from_1 one_floor) ∷ []) (Received (Peer 3) []) → ⊥ }
+    ensures not_told { HandsIn zeros 2 (Came (from_1 deny_of_9) ∷ []) (from_1 one_floor) → ⊥ }
+    ensures from_another { HandsIn zeros 2 (Came (from_1 one_floor) ∷ []) (Received (Peer 3) one_floor) → ⊥ }
     ensures to_itself { TellsFloors zeros book 2 5 (replicate 3 5) [] (Peer 2) [] → ⊥ }
     ensures to_a_client { TellsFloors zeros book 2 5 (replicate 3 5) [] (Client 1) [] → ⊥ }
     ensures own { IsOwnFloor book (5 ∷ 6 ∷ 7 ∷ []) [] (floor_of 0xbb 6) }
     ensures another_row { IsOwnFloor book (5 ∷ 6 ∷ 7 ∷ []) [] (floor_of 0xbb 5) → ⊥ }
     ensures bodies { IsBodyOf [] (0 ∷ []) → ⊥ }
+{}
+
+/// Worked cases. The setup of a port that tells floors has what it packs by, and the floors at its start.
+pub fn setups_are_worked()
+    ensures telling { telling_setup (new_packer (7 ∷ []) book 2 5 3 (8 ∷ 9 ∷ [])) (8 ∷ 9 ∷ []) (Some bare_setup)
+        ≡ Some (record bare_setup {
+          namings = record { key = 7 ∷ []; names = (3 ∷ 8 ∷ 9 ∷ []) ∷ book; me = 2; boot = 5 } ∷ [];
+        }) }
+    ensures over_none { telling_setup node_2 [] None ≡ None }
+    ensures used { telling_setup (record node_2 { pace = pace_with 3 4; pending = left_of_1 [] }) [] (Some bare_setup)
+        ≡ telling_setup node_2 [] (Some bare_setup) }
+{}
+
+/// Counterexamples: the setup is another one for another key, other names, another node or boot, another number of
+/// members, or other floors.
+pub fn setups_can_be_broken()
+    ensures another_key { telling_setup (new_packer (7 ∷ []) book 2 5 3 []) [] (Some bare_setup)
+        ≡ telling_setup (new_packer (8 ∷ []) book 2 5 3 []) [] (Some bare_setup) → ⊥ }
+    ensures fewer_names { telling_setup (new_packer (7 ∷ []) book 2 5 3 []) [] (Some bare_setup)
+        ≡ telling_setup (new_packer (7 ∷ []) [] 2 5 3 []) [] (Some bare_setup) → ⊥ }
+    ensures another_node { telling_setup (new_packer (7 ∷ []) book 2 5 3 []) [] (Some bare_setup)
+        ≡ telling_setup (new_packer (7 ∷ []) book 1 5 3 []) [] (Some bare_setup) → ⊥ }
+    ensures another_boot { telling_setup (new_packer (7 ∷ []) book 2 5 3 []) [] (Some bare_setup)
+        ≡ telling_setup (new_packer (7 ∷ []) book 2 6 3 []) [] (Some bare_setup) → ⊥ }
+    ensures more_members { telling_setup (new_packer (7 ∷ []) book 2 5 3 []) [] (Some bare_setup)
+        ≡ telling_setup (new_packer (7 ∷ []) book 2 5 4 []) [] (Some bare_setup) → ⊥ }
+    ensures second_floor { telling_setup (new_packer (7 ∷ []) book 2 5 3 []) (8 ∷ 9 ∷ []) (Some bare_setup)
+        ≡ telling_setup (new_packer (7 ∷ []) book 2 5 3 []) (8 ∷ 8 ∷ []) (Some bare_setup) → ⊥ }
+    ensures not_telling { telling_setup node_2 [] (Some bare_setup) ≡ Some bare_setup → ⊥ }
 {}

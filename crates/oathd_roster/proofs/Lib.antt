@@ -3,4 +3,6 @@ mod UsersLemmas
 mod OpenedLemmas
 mod BegunLemmas
 mod NamedLemmas
+mod FloorsLemmas
+mod TellingLemmas
 mod ServedLemmas

@@ -1,6 +1,6 @@
 -- A node is served over a port by names.
 use Rattle.std.proofs.Common.{inl, inr, ◌≡◌, ◌∙◌, ℕ, ◌+◌, Bool, true, false, List, [], ◌∷◌, map, Option, Some, None, IfSome, refl, sym, ap, subst}
-use Rattle.std.specs.Prelude.{Result, Ok, Err, IfErr, IfOk, IsSome}
+use Rattle.std.specs.Prelude.{◌⊎◌, Result, Ok, Err, IfErr, IfOk, IsSome}
 use Rattle.std.proofs.lemmas.Option.{IfSome_then, same_Some}
 use Rattle.std.specs.declared.net.socket_addr.SocketAddrV4.{SocketAddrV4}
 use Rattle.sqlite.specs.Store.{Ghosts}
@@ -10,6 +10,10 @@ use Rattle.datagram_port.specs.Port.{PortEvent}
 use Rattle.datagram_port.specs.Setup.{Keyed, Setup, behind_gate}
 use Rattle.floor_sql.specs.Held.{SqlHeld, sql_held}
 use Rattle.floor_store.specs.Held.{Held}
+use Rattle.floor_port.specs.Packer.{PackerRecord, new_packer}
+use Rattle.floor_port.specs.Runs as telling
+use Rattle.floor_port.specs.Runs.{Call, may_make}
+use Rattle.floor_port.specs.Setup.{telling_setup}
 use Rattle.named_port.specs.Runs.{IsAfter, at_start, below_events, handed_events}
 use Rattle.named_port.specs.Setup.{named_setup}
 use Rattle.named_port.specs.Translator.{TranslatorRecord, new_translator}
@@ -33,6 +37,7 @@ use Rattle.oathd_database.specs.Fault.{IsOpenFault, serve_end}
 use Rattle.oathd_database.specs.Front.{IsFrontFault, IsFrontOf}
 use Rattle.oathd_database.specs.Gate.{client_from}
 use Rattle.oathd_database.specs.NodeKey.{tag_key}
+use Rattle.vote_wire.specs.Key.{bare}
 use Rattle.oathd_database.specs.Setup.{keyed_from, setup_behind, setup_for}
 use Rattle.oathd_database.specs.Users.{IsImported}
 use Rattle.oathd_database.specs.declared.fault.Fault.{Fault}
@@ -43,42 +48,55 @@ use Rattle.oathd_database.specs.declared.gate.Front.{Front}
 use Rattle.oathd_database.specs.declared.gate.Front.TheVariants.{Anybody, ThisMachine, Gate}
 use Rattle.oathd_database.specs.declared.serving.Serving.{Serving}
 use Rattle.oathd_roster.specs.Opened.{HasOpenedNamed, IsNotOpened}
-use Rattle.oathd_roster.specs.Served.{EndsServingNamed, HasServedNamed, IsServedNamed, ServesNamed}
+use Rattle.oathd_roster.specs.Served.{EndsServingNamed, HasServedNamed, IsServedNamed, ServesNamed, floors_in}
 use Rattle.oathd_roster.specs.declared.cluster.NamedCluster.{NamedCluster}
 use Rattle.oathd_roster.specs.declared.fault.RosterFault.{RosterFault}
 use Rattle.oathd_roster.specs.declared.fault.RosterFault.TheVariants.{Command, SameName, AnotherCluster, Full}
 use Rattle.oathd_roster.proofs.NamedLemmas.{parts_stay}
+use Rattle.oathd_roster.proofs.TellingLemmas.{known_above, telling_stays}
 
 -- ---- a run over a port by names
 
-pub served_under : {S : Type 0} (held : S → Held) (old new : Hosted S) (turns : ℕ) (end : Result Served ServeFault) (start first last : TranslatorRecord)
-    (none calls : List PortEvent) (was now : Option Setup) (below : Option (List PortEvent))
-    → first ≡ at_start start → none ≡ [] → IsSome was
-    → Serves held old new (Some (handed_events (at_start first) none)) (Some (handed_events (at_start last) calls)) None None turns end
-    → named_setup last now ≡ named_setup first was → IsAfter below last calls
-    → ServesNamed held old new (at_start start) below turns end × (now ≡ was)
-served_under held old new turns end start first last none calls was now below is fresh known serves same after =
-    let u = parts_stay first last was now known same in
-    let begins : at_start last ≡ at_start start = u.0 ∙ ap at_start is in (
+-- The translator `t` and the packer `p` are at their start, when nothing was received and offered, and `u` and `q` are
+-- those at the end.
+pub served_under : {S : Type 0} (held : S → Held) (old new : Hosted S) (turns : ℕ) (end : Result Served ServeFault) (t u start : TranslatorRecord) (p q packer : PackerRecord)
+    (none calls : List PortEvent) (told : List Call) (was now : Option Setup) (floors later : List ℕ) (below : Option (List PortEvent))
+    → t ≡ start → start ≡ at_start start → none ≡ [] → p ≡ packer → packer ≡ telling.at_start packer floors → IsSome was
+    → Serves held old new (Some (handed_events (at_start t) none)) (Some (handed_events (at_start u) calls)) None None turns end
+    → named_setup u (telling_setup q later now) ≡ named_setup t (telling_setup p floors was)
+    → IsAfter (Some (telling.handed_events (telling.at_start q later) told)) u calls
+    → telling.IsAfter below q (telling.at_start q later) told
+    → ServesNamed held old new start packer below turns end × (now ≡ was)
+served_under held old new turns end t u start p q packer none calls told was now floors later below is begun fresh is_packer packed known serves same after under =
+    let parts = parts_stay t u (telling_setup p floors was) (telling_setup q later now) (known_above p floors was known) same in
+    let more = telling_stays p q floors later was now known parts.1 in
+    let begins : at_start u ≡ start = parts.0 ∙ ap at_start is ∙ sym begun in
+    let packs : telling.at_start q later ≡ packer = more.0 ∙ ap (λ (one : PackerRecord). telling.at_start one floors) is_packer ∙ sym packed in (
       record {
         calls = calls;
         serves =
-            subst (λ (f : List PortEvent). Serves held old new (Some f) (Some (handed_events (at_start start) calls)) None None turns end)
-            (ap (handed_events (at_start first)) fresh)
-            (subst (λ (s : TranslatorRecord). Serves held old new (Some (handed_events (at_start first) none)) (Some (handed_events s calls)) None None turns end)
+            subst (λ (f : List PortEvent). Serves held old new (Some f) (Some (handed_events start calls)) None None turns end)
+            (ap (handed_events (at_start t)) fresh)
+            (subst (λ (s : TranslatorRecord). Serves held old new (Some (handed_events (at_start t) none)) (Some (handed_events s calls)) None None turns end)
             begins serves);
-        below_is = λ events e. after.below_is events e ∙ ap (λ (s : TranslatorRecord). below_events s calls) begins;
+        told = told;
+        is_made = subst (λ (one : PackerRecord). may_make one told ≡ true) packs under.is_made;
+        handed_is =
+            ap (λ (s : TranslatorRecord). below_events s calls) (sym begins)
+            ∙ sym (after.below_is (telling.handed_events (telling.at_start q later) told) refl)
+            ∙ ap (λ (one : PackerRecord). telling.handed_events one told) packs;
+        below_is = λ events e. under.below_is events e ∙ ap (λ (one : PackerRecord). telling.below_events one told) packs;
       },
-      u.1,
+      more.1,
     )
 
 module _ {S : Type 0} (held : S → Held) (old new : Hosted S) (turns : ℕ) (result : Result Served Fault) (end : Result Served ServeFault)
-    (start : TranslatorRecord) (skips alone : Bool) (members : List SocketAddrV4) (calls : SocketCalls) (setup : Setup) (ends : result ≡ serve_end end) where
+    (start : TranslatorRecord) (packer : PackerRecord) (skips alone : Bool) (members : List SocketAddrV4) (calls : SocketCalls) (setup : Setup) (ends : result ≡ serve_end end) where
   -- a node was served over a socket's port
-  pub served_plain : ServesNamed held old new start (Some (events_of_calls skips alone members calls)) turns end
-      → Some (setup_of skips alone members) ≡ Some setup → IsServedNamed held old new setup start turns result
+  pub served_plain : ServesNamed held old new start packer (Some (events_of_calls skips alone members calls)) turns end
+      → Some (setup_of skips alone members) ≡ Some setup → IsServedNamed held old new setup start packer turns result
   served_plain serves stays =
-      subst (λ (s : Setup). IsServedNamed held old new s start turns result) (same_Some (setup_of skips alone members) setup stays) (record {
+      subst (λ (s : Setup). IsServedNamed held old new s start packer turns result) (same_Some (setup_of skips alone members) setup stays) (record {
         events = events_of_calls skips alone members calls;
         calls = calls;
         of_setup = refl;
@@ -88,11 +106,11 @@ module _ {S : Type 0} (held : S → Held) (old new : Hosted S) (turns : ℕ) (re
       })
 
   -- a node was served over a gate's port
-  pub served_sealed : (gate : GateRecord) (events : List PortEvent) → ServesNamed held old new start (Some events) turns end
+  pub served_sealed : (gate : GateRecord) (events : List PortEvent) → ServesNamed held old new start packer (Some events) turns end
       → ∥ AreHeard (gate_setup gate) (events_of_calls skips alone members calls) events ∥₁
-      → Some (behind_gate (gate_setup gate) (setup_of skips alone members)) ≡ Some setup → IsServedNamed held old new setup start turns result
+      → Some (behind_gate (gate_setup gate) (setup_of skips alone members)) ≡ Some setup → IsServedNamed held old new setup start packer turns result
   served_sealed gate events serves heard stays =
-      subst (λ (s : Setup). IsServedNamed held old new s start turns result)
+      subst (λ (s : Setup). IsServedNamed held old new s start packer turns result)
       (same_Some (behind_gate (gate_setup gate) (setup_of skips alone members)) setup stays) (record {
         events = events;
         calls = calls;
@@ -143,16 +161,18 @@ setup_is node members (lines.Of clients) (Gate gate) is =
     ∙ ap (λ (all : List Keyed). setup_with node all clients.plain.items clients.failures members)
     (clients_keyed (client_from clients.ahead is.0) (keyed_from clients.ahead) clients.clients.items (λ entry. refl))
 
-module _ {S : Type 0} {held : S → Held} {old new : Hosted S} {start : TranslatorRecord} {turns : ℕ} {result : Result Served Fault} where
-  -- a run that is served over one setup and translator is served over the same ones
-  pub served_over : {me number : ℕ} {made members : List SocketAddrV4} (given : ClientLines) (front : Front) (other : TranslatorRecord)
-      → made ≡ members → IsFrontOf me given front → me ≡ number → start ≡ other → IsServedNamed held old new (setup_behind made front) start turns result
-      → IsServedNamed held old new (setup_for number members given) other turns result
-  served_over {me} {number} {made} {members} given front other same is who begins served =
-      subst (λ (t : TranslatorRecord). IsServedNamed held old new (setup_for number members given) t turns result) begins
-      (subst (λ (s : Setup). IsServedNamed held old new s start turns result)
+module _ {S : Type 0} {held : S → Held} {old new : Hosted S} {start : TranslatorRecord} {packer : PackerRecord} {turns : ℕ} {result : Result Served Fault} where
+  -- a run that is served over one setup, translator and packer is served over the same ones
+  pub served_over : {me number : ℕ} {made members : List SocketAddrV4} (given : ClientLines) (front : Front) (other : TranslatorRecord) (same_packer : PackerRecord)
+      → made ≡ members → IsFrontOf me given front → me ≡ number → start ≡ other → packer ≡ same_packer
+      → IsServedNamed held old new (setup_behind made front) start packer turns result
+      → IsServedNamed held old new (setup_for number members given) other same_packer turns result
+  served_over {me} {number} {made} {members} given front other same_packer same is who begins packs served =
+      subst (λ (t : TranslatorRecord). IsServedNamed held old new (setup_for number members given) t same_packer turns result) begins
+      (subst (λ (p : PackerRecord). IsServedNamed held old new (setup_for number members given) start p turns result) packs
+      (subst (λ (s : Setup). IsServedNamed held old new s start packer turns result)
       (ap (λ (all : List SocketAddrV4). setup_behind all front) same
-      ∙ setup_is number members given front (subst (λ (n : ℕ). IsFrontOf n given front) who is)) served)
+      ∙ setup_is number members given front (subst (λ (n : ℕ). IsFrontOf n given front) who is)) served))
 
 -- a translator of the same parts is the same
 pub start_is : (key all : List ℕ) (names others : List (List ℕ)) (me number boot : ℕ) → key ≡ all → names ≡ others → me ≡ number
@@ -160,6 +180,26 @@ pub start_is : (key all : List ℕ) (names others : List (List ℕ)) (me number 
 start_is key all names others me number boot one two three =
     ap (λ (k : List ℕ). new_translator k names me boot) one ∙ ap (λ (n : List (List ℕ)). new_translator all n me boot) two
     ∙ ap (λ (m : ℕ). new_translator all others m boot) three
+
+-- a packer of the same parts is the same
+pub packer_is : (key all : List ℕ) (names others : List (List ℕ)) (me number boot members count : ℕ) (floors : List ℕ) → key ≡ all → names ≡ others → me ≡ number → members ≡ count
+    → new_packer key names me boot members floors ≡ new_packer all others number boot count floors
+packer_is key all names others me number boot members count floors one two three four =
+    ap (λ (k : List ℕ). new_packer k names me boot members floors) one ∙ ap (λ (n : List (List ℕ)). new_packer all n me boot members floors) two
+    ∙ ap (λ (m : ℕ). new_packer all others m boot members floors) three ∙ ap (λ (c : ℕ). new_packer all others number boot c floors) four
+
+-- ---- want of memory before the first turn
+
+abbrev failed : Fault → Result Served Fault
+failed fault = Err fault
+
+err_same : (fault other : Fault) → failed fault ≡ failed other → fault ≡ other
+err_same fault other e = cc
+
+-- who was served wasn't short of memory
+pub not_early : {A : Type 0} (served : Served) → (Ok served ≡ failed Memory) ⊎ A → A
+not_early served (inl memory) = absurd cc
+not_early served (inr run) = run
 
 -- ---- the command
 
@@ -206,6 +246,16 @@ module _ {S : Type 0} (g : Ghosts S) (finds : sql.Held S → Type 0) (cluster : 
         → IsNotServed serving.settings moment 16777216 fault text) → IfSome a (EndsServingNamed g finds cluster moment serving (Command fault))
     ends_before fault fails = IfSome_then a imported (λ text h. inl (fails text h))
 
+    -- the allocator refuses the memory before the first turn, or the node was served
+    pub ends_early : {A : Type 0} (fault : Fault) → (failed fault ≡ failed Memory) ⊎ A
+        → (A → IfSome a (EndsServingNamed g finds cluster moment serving (Command fault)))
+        → IfSome a (EndsServingNamed g finds cluster moment serving (Command fault))
+    ends_early fault (inl memory) served =
+        let same : fault ≡ Memory = err_same fault Memory memory in
+        subst (λ (x : Fault). IfSome a (EndsServingNamed g finds cluster moment serving (Command x))) (sym same)
+        (ends_before Memory (λ text h. tt))
+    ends_early fault (inr run) served = served run
+
     -- the node is not opened, or its store fails
     pub ends_opening : (fault : Fault) → IsOpenFault fault → IfSome a (EndsServingNamed g finds cluster moment serving (Command fault))
     ends_opening fault is = ends_before fault (λ text h. opening_failed serving.settings moment 16777216 book floors fault text h is)
@@ -225,14 +275,16 @@ module _ {S : Type 0} (g : Ghosts S) (finds : sql.Held S → Type 0) (cluster : 
     ends_memory fault is =
         subst (λ (x : Fault). IfSome a (EndsServingNamed g finds cluster moment serving (Command x))) (sym is) (ends_before Memory (λ text h. tt))
 
-    module _ (found : SeatedRecord (SqlHeld S)) (counts : RowCounts) (first last : Hosted (SeatedRecord (SqlHeld S))) (boot : ℕ)
+    module _ (found : SeatedRecord (SqlHeld S)) (counts : RowCounts) (first last : Hosted (SeatedRecord (SqlHeld S))) (boot : ℕ) (starts : List ℕ)
         (opened : HasOpenedNamed g finds cluster serving.settings moment serving.place.me book floors found counts)
         (in_boot : IsOpened (seated_held (sql_held g)) found first) (of_book : first.book ≡ book)
-        (of_limits : first.limits ≡ serving.settings) (of_key : first.key ≡ tag_key serving.key book) (of_place : first.voter.place ≡ serving.place)
-        (boot_is : HasCleanDisk (sql.state g found.inner.conn) → boot ≡ found.inner.mirror.boot + 1) where
+        (of_limits : first.limits ≡ serving.settings) (of_key : first.key ≡ bare) (of_place : first.voter.place ≡ serving.place)
+        (boot_is : HasCleanDisk (sql.state g found.inner.conn) → boot ≡ found.inner.mirror.boot + 1)
+        (starts_are : HasCleanDisk (sql.state g found.inner.conn) → starts ≡ floors_in (seated_held (sql_held g) found).content) where
       abbrev IsSo : Result Served Fault → Type 0
       IsSo result = IsServedNamed (seated_held (sql_held g)) first last (setup_for serving.place.me serving.members.items serving.lines)
-          (new_translator (tag_key serving.key book) (names_of cluster.salt book) serving.place.me boot) serving.turns result
+          (new_translator (tag_key serving.key book) (names_of cluster.salt book) serving.place.me boot)
+          (new_packer (tag_key serving.key book) (names_of cluster.salt book) serving.place.me boot serving.place.n starts) serving.turns result
 
       served_so : (result : Result Served Fault) → IsSo result → IfSome a (HasServedNamed g finds cluster moment serving result)
       served_so result is =
@@ -250,6 +302,8 @@ module _ {S : Type 0} (g : Ghosts S) (finds : sql.Held S → Type 0) (cluster : 
             last = last;
             boot = boot;
             boot_is = boot_is;
+            floors = starts;
+            floors_are = starts_are;
             served_is = is;
           })
 

@@ -1,11 +1,15 @@
 -- A node that is served over a port by names.
-use Rattle.std.specs.Prelude.{◌≡◌, ◌⊎◌, ℕ, ◌+◌, List, [], Option, Some, None, Result, Err}
+use Rattle.std.specs.Prelude.{◌≡◌, ◌⊎◌, ℕ, ◌+◌, true, List, [], map, Option, Some, None, Result, Err}
 use Rattle.sqlite.specs.Store.{Ghosts}
 use Rattle.sqlite.specs.Held as sql
 use Rattle.sqlite.specs.State.{HasCleanDisk}
 use Rattle.datagram_port.specs.Port.{PortEvent}
 use Rattle.datagram_port.specs.Setup.{Setup}
+use Rattle.floor_port.specs.Packer.{PackerRecord, new_packer}
+use Rattle.floor_port.specs.Runs as telling
+use Rattle.floor_port.specs.Runs.{Call, may_make}
 use Rattle.floor_sql.specs.Held.{SqlHeld, sql_held}
+use Rattle.floor_store.specs.Content.{Content}
 use Rattle.floor_store.specs.Held.{Held}
 use Rattle.named_port.specs.Runs.{below_events, handed_events}
 use Rattle.named_port.specs.Translator.{TranslatorRecord, new_translator}
@@ -18,6 +22,7 @@ use Rattle.named_store.specs.declared.opening.RowCounts.{RowCounts}
 use Rattle.seated_store.specs.Seated.{SeatedRecord, seated_held}
 use Rattle.token_names.specs.Names.{names_of}
 use Rattle.udp_port.specs.Calls.{SocketCalls}
+use Rattle.vote_wire.specs.Key.{bare}
 use Rattle.oathd_database.specs.Commands.{HasImport, IsNotServed}
 use Rattle.oathd_database.specs.Fault.{serve_end}
 use Rattle.oathd_database.specs.NodeKey.{tag_key}
@@ -28,31 +33,53 @@ use Rattle.oathd_roster.specs.Opened.{HasOpenedNamed, IsNotOpened}
 use Rattle.oathd_roster.specs.declared.cluster.NamedCluster.{NamedCluster}
 use Rattle.oathd_roster.specs.declared.fault.RosterFault.{RosterFault}
 use Rattle.oathd_roster.specs.declared.fault.RosterFault.TheVariants.{Command, SameName, AnotherCluster, Full}
+use Rattle.oathd_roster.specs.declared.naming.Naming.{Naming}
+
+-- ---- the ports between the node and its socket
+
+-- the floors of the rows of a content, in order
+abbrev pub floors_in : Content → List ℕ
+floors_in content = map (λ row. row.next) content.rows
+
+-- the translator at its start
+abbrev pub translator_of : Naming → TranslatorRecord
+translator_of naming = new_translator naming.key naming.names naming.node.me naming.node.boot
+
+-- the packer at its start
+abbrev pub packer_of : Naming → PackerRecord
+packer_of naming =
+    new_packer naming.key naming.names naming.node.me naming.node.boot naming.node.members naming.floors.items
 
 -- ---- the turns
 
--- A node was served for some turns through a translator, which was new at the start. `below` is the record of the port
--- below at the end.
+-- A node was served for some turns through a translator over a port that tells floors. Both were new at the start.
+-- `below` is the record at the end of the port below that one.
 pub record ServesNamed {S : Type 0} (held : S → Held) (old new : Hosted S) (start : TranslatorRecord)
-    (below : Option (List PortEvent)) (turns : ℕ) (end : Result Served ServeFault) : Type 0 where
-  -- the events that the port below received, and the node's offers
+    (packer : PackerRecord) (below : Option (List PortEvent)) (turns : ℕ) (end : Result Served ServeFault)
+    : Type 0 where
+  -- the events that the translator received, and the node's offers
   pub calls : List PortEvent
   -- the node received what the translator handed in for them
   pub serves : Serves held old new (Some []) (Some (handed_events start calls)) None None turns end
-  -- the port below was offered what the translator made of the node's offers
-  pub below_is : (events : List PortEvent) → below ≡ Some events → events ≡ below_events start calls
+  -- the calls of the port that tells floors
+  pub told : List Call
+  pub is_made : may_make packer told ≡ true
+  -- the translator received what that port handed in, and offered to it what it made of the node's offers
+  pub handed_is : below_events start calls ≡ telling.handed_events packer told
+  -- the port below was offered these offers, and floors of the node
+  pub below_is : (events : List PortEvent) → below ≡ Some events → events ≡ telling.below_events packer told
 
--- A node was served for some turns through a new translator over a port with the setup. The port kept a record, and had
--- received and offered nothing. The run ended with `result`.
+-- A node was served for some turns through a new translator and a new packer over a port with the setup. The port kept
+-- a record, and had received and offered nothing. The run ended with `result`.
 pub record IsServedNamed {S : Type 0} (held : S → Held) (old new : Hosted S) (setup : Setup)
-    (start : TranslatorRecord) (turns : ℕ) (result : Result Served Fault) : Type 0 where
+    (start : TranslatorRecord) (packer : PackerRecord) (turns : ℕ) (result : Result Served Fault) : Type 0 where
   -- the port's record at the end
   pub events : List PortEvent
   -- the calls of its socket, as the port noted them
   pub calls : SocketCalls
   pub of_setup : AreEventsOf setup calls events
   pub end : Result Served ServeFault
-  pub serves : ServesNamed held old new start (Some events) turns end
+  pub serves : ServesNamed held old new start packer (Some events) turns end
   pub ends : result ≡ serve_end end
 
 -- ---- the command
@@ -72,18 +99,25 @@ module _ {S : Type 0} (g : Ghosts S) (finds : sql.Held S → Type 0) (cluster : 
     pub in_boot : IsOpened (seated_held (sql_held g)) found first
     pub of_book : first.book ≡ import.book
     pub of_limits : first.limits ≡ serving.settings
-    pub of_key : first.key ≡ tag_key serving.key import.book
+    -- the node speaks to its port under the bare key, and the port to the members under the cluster's
+    pub of_key : first.key ≡ bare
     pub of_place : first.voter.place ≡ serving.place
     pub last : Hosted (SeatedRecord (SqlHeld S))
     -- the boot of the node, after that of its store
     pub boot : ℕ
     pub boot_is : HasCleanDisk (sql.state g found.inner.conn) → boot ≡ found.inner.mirror.boot + 1
+    -- the floors of its tokens, those of its store
+    pub floors : List ℕ
+    pub floors_are :
+        HasCleanDisk (sql.state g found.inner.conn) → floors ≡ floors_in (seated_held (sql_held g) found).content
     -- the port below is at the members of `serving`, and takes its lines
     pub served_is :
         let setup = setup_for serving.place.me serving.members.items serving.lines in
         let key = tag_key serving.key import.book in
-        let start = new_translator key (names_of cluster.salt import.book) serving.place.me boot in
-        IsServedNamed (seated_held (sql_held g)) first last setup start serving.turns result
+        let names = names_of cluster.salt import.book in
+        let me = serving.place.me in
+        IsServedNamed (seated_held (sql_held g)) first last setup (new_translator key names me boot)
+        (new_packer key names me boot serving.place.n floors) serving.turns result
 
   -- A command that serves a node by names ends with the fault: before the first turn, or in a turn, with all that was
   -- served until then.

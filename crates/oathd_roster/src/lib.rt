@@ -9,8 +9,10 @@ mod begin;
 mod cluster;
 mod enrolment;
 mod fault;
+mod floors;
 mod laws;
 mod names;
+mod naming;
 mod opening;
 mod serve;
 #[cfg(test)]

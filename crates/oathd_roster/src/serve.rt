@@ -1,21 +1,23 @@
 //! The command `serve` over a store by names: runs a node over the store and a socket.
 
-ghost use Rattle.std.specs.Prelude.{◌≡◌, ◌<◌, ◌^◌, [], None, Some, false, true, if◌then◌else◌, map, Result, Ok, IfErr, IfOk, IfSome, IsSome};
+ghost use Rattle.std.specs.Prelude.{◌≡◌, ◌⊎◌, ◌<◌, ◌^◌, [], None, Some, false, true, if◌then◌else◌, map, Result, Ok, Err, IfErr, IfOk, IfSome, IsSome};
 ghost use Rattle.otp_core.specs.Range.{IsMoment};
 ghost use Rattle.oath_node.specs.declared.serve_fault.ServeFault.{ServeFault};
 ghost use Rattle.oath_node.specs.declared.turns.Served.{Served};
-ghost use Rattle.named_port.specs.Translator.{new_translator};
 ghost use Rattle.oathd_database.specs.Fault.{serve_end};
 ghost use Rattle.oathd_database.specs.Setup.{setup_behind};
 ghost use Rattle.oathd_roster.specs.Log.{roster_at};
-ghost use Rattle.oathd_roster.specs.Served.{EndsServingNamed, HasServedNamed, IsServedNamed, ServesNamed};
+ghost use Rattle.oathd_roster.specs.Served.{EndsServingNamed, HasServedNamed, IsServedNamed, ServesNamed, packer_of, translator_of};
 
 use crate::cluster::NamedCluster;
 use crate::fault::RosterFault;
+use crate::floors::floors_of;
 use crate::names::names_in;
+use crate::naming::Naming;
 use crate::opening::open_named_store;
 use crate::users::NamedUsers;
 use cluster_file::book_print;
+use floor_port::{FloorPort, Membership};
 use floor_store::FloorStore;
 use named_port::{NamedPort, Names};
 use named_store::RowCounts;
@@ -35,20 +37,15 @@ use token_file::Book;
 use udp_port::{SystemClock, UdpPort};
 use vote_wire::ClusterKey;
 
-/// What a node's port translates by.
-#[derive(Drop)]
-struct Naming {
-    key: ClusterKey,
-    names: Names,
-    me: u8,
-    boot: u64,
-}
-
 /// Serves a node by names over a port, which has received and offered nothing, with a log if there is one.
 ///
+/// Between the node's port by names and `port` stands one that tells the node's floors to the other members.
+///
 /// # Errors
-/// Returns the errors of [`serve_port`].
+/// - Returns `Memory` if the allocator refuses the memory for the floors that the port tells.
+/// - Returns the errors of [`serve_port`].
 fn serve_named<S: FloorStore, P: Gatekeeper + Drop, N: TimeSource, W: Write>(
+    alloc: Global,
     node: &mut Node<'_, S>,
     port: P,
     naming: &Naming,
@@ -60,19 +57,26 @@ fn serve_named<S: FloorStore, P: Gatekeeper + Drop, N: TimeSource, W: Write>(
     requires turns { turns < 2 ^ 54 }
     requires fresh { IfSome (P.events port) (λ events. events ≡ []) }
     requires known { IsSome (P.setup port) }
-    ensures turns { (end : Result Served ServeFault) × (last : P)
-        × ServesNamed S.held node.old node.new
-        (new_translator naming.now.key naming.now.names naming.now.me naming.now.boot) (P.events last) turns end
-        × (P.setup last ≡ P.setup port) × (result ≡ serve_end end) }
+    ensures turns { (result ≡ Err Fault.Memory) ⊎ ((end : Result Served ServeFault) × (last : P)
+        × ServesNamed S.held node.old node.new (translator_of naming.now) (packer_of naming.now) (P.events last)
+        turns end × (P.setup last ≡ P.setup port) × (result ≡ serve_end end)) }
     ensures unlogged { log ≡ None → writer.new ≡ writer.old }
 {
-    let port = NamedPort::new(port, &naming.key, &naming.names, naming.me, naming.boot);
+    let (key, names, member) = (&naming.key, &naming.names, naming.node);
+    let Ok(port) = FloorPort::new(alloc, port, key, names, member, &naming.floors) else {
+        return Err(Fault::Memory);
+    };
+    let port = NamedPort::new(port, key, names, member.me, member.boot);
     serve_port(node, port, outside, turns, log, writer)
 }
 
 /// Serves a node by names over a socket, for the clients that `front` lets through, with a log if there is one. Without
 /// a log it writes nothing.
+///
+/// # Errors
+/// Returns the errors of [`serve_named`].
 fn serve_front<S: FloorStore, N: TimeSource, W: Write>(
+    alloc: Global,
     node: &mut Node<'_, S>,
     port: UdpPort<&N>,
     naming: &Naming,
@@ -85,19 +89,19 @@ fn serve_front<S: FloorStore, N: TimeSource, W: Write>(
     requires turns { turns < 2 ^ 54 }
     requires calls { port.calls.made ≡ [] }
     requires plain { (port.skips_answers ≡ true) × (port.takes_loopback_alone ≡ false) }
-    ensures turns { IsServedNamed S.held node.old node.new (setup_behind port.entry.members.items front)
-        (new_translator naming.now.key naming.now.names naming.now.me naming.now.boot) turns result }
+    ensures turns { (result ≡ Err Fault.Memory) ⊎ IsServedNamed S.held node.old node.new
+        (setup_behind port.entry.members.items front) (translator_of naming.now) (packer_of naming.now) turns result }
     ensures unlogged { log ≡ None → writer.new ≡ writer.old }
 {
     match front {
-        Front::Anybody => serve_named(node, port, naming, outside, turns, log, writer),
+        Front::Anybody => serve_named(alloc, node, port, naming, outside, turns, log, writer),
         Front::ThisMachine => {
             let port = port.taking_loopback_alone();
-            serve_named(node, port, naming, outside, turns, log, writer)
+            serve_named(alloc, node, port, naming, outside, turns, log, writer)
         }
         Front::Gate(gate) => {
             let port = SealedPort::new(port.under_gate(), SystemClock::new(outside), gate);
-            serve_named(node, port, naming, outside, turns, log, writer)
+            serve_named(alloc, node, port, naming, outside, turns, log, writer)
         }
     }
 }
@@ -151,14 +155,17 @@ fn indexed_names(alloc: Global, named: &NamedUsers) -> Result<Names, Fault>
 /// Opens a node over its store by names in a new boot, binds a UDP socket to its address, and serves it for the given
 /// turns.
 ///
-/// The store is opened as [`open_named_store`] does. The node speaks to the other members by the names of its tokens.
+/// The store is opened as [`open_named_store`] does. The node speaks to the other members by the names of its tokens,
+/// under the key of `serving`. In the process, it speaks to its port under the bare key. It tells the other members the
+/// floors of its tokens in bulk, and takes theirs ([`floor_port`]).
 /// A log has a line of the store's rows after its first one. All else is as in
 /// [`serve_store`](oathd_database::serve_store).
 ///
 /// # Errors
 /// - Returns the errors of [`open_named_store`].
 /// - Returns `Command` with the errors of [`open_node`].
-/// - Returns `Command(Memory)` if the allocator refuses the memory for the log's line of rows.
+/// - Returns `Command(Memory)` if the allocator refuses the memory for the floors, or for the log's line of rows.
+/// - Returns `Command(Store)` with the fault that broke the store.
 /// - Returns `Command(Socket)` if the socket cannot be bound.
 /// - Returns `Command` with the errors of [`front_of`].
 /// - Returns `Command` with the errors of [`serve_port`].
@@ -203,17 +210,25 @@ pub fn serve_named_store<
     let names = indexed_names(alloc, &named)?;
     let address = members[usize::from(node) - 1];
     let start = start_of(place, address, store.boot()?, book, &key);
+    let floors = floors_of(alloc, &store)?;
     let naming = Naming {
         key,
         names,
-        me: node,
-        boot: start.boot,
+        node: Membership {
+            me: node,
+            boot: start.boot,
+            members: place.n(),
+        },
+        floors,
     };
-    let mut node = open_node(alloc, book, settings, place, &naming.key, store)?;
+    let bare = ClusterKey::bare();
+    let mut node = open_node(alloc, book, settings, place, &bare, store)?;
     let port = UdpPort::new(socket_at(outside, address)?, members, outside);
     let front = front_of(alloc, place.me(), lines, outside)?;
     let roster = roster_of(alloc, is_logged, counts, book, &naming.key)?;
     let log = log_of(is_logged, start, roster, place);
-    let served = serve_front(&mut node, port, &naming, outside, front, turns, log, writer)?;
+    let served = serve_front(
+        alloc, &mut node, port, &naming, outside, front, turns, log, writer,
+    )?;
     Ok(served)
 }

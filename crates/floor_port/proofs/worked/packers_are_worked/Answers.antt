@@ -34,6 +34,14 @@ pub returns-clause-single : goal.returns-clause-single
 unfolding tag_of datagram_bytes datagram_at head_at sha256_steps.first_words sha256_steps.schedule sha256_steps.rounds sha256_steps.compress sha256_steps.hash_after sha256_steps.digest_bytes sha256_steps.sha256
 returns-clause-single c = refl
 
+pub returns-clause-single_left : goal.returns-clause-single_left
+unfolding tag_of datagram_bytes datagram_at head_at sha256_steps.first_words sha256_steps.schedule sha256_steps.rounds sha256_steps.compress sha256_steps.hash_after sha256_steps.digest_bytes sha256_steps.sha256
+returns-clause-single_left c = refl
+
+pub returns-clause-second : goal.returns-clause-second
+unfolding tag_of datagram_bytes datagram_at head_at sha256_steps.first_words sha256_steps.schedule sha256_steps.rounds sha256_steps.compress sha256_steps.hash_after sha256_steps.digest_bytes sha256_steps.sha256
+returns-clause-second c = refl
+
 pub returns-clause-no_news : goal.returns-clause-no_news
 unfolding tag_of datagram_bytes datagram_at head_at sha256_steps.first_words sha256_steps.schedule sha256_steps.rounds sha256_steps.compress sha256_steps.hash_after sha256_steps.digest_bytes sha256_steps.sha256
 returns-clause-no_news c = refl
@@ -41,6 +49,26 @@ returns-clause-no_news c = refl
 pub returns-clause-no_news_of_two : goal.returns-clause-no_news_of_two
 unfolding tag_of datagram_bytes datagram_at head_at sha256_steps.first_words sha256_steps.schedule sha256_steps.rounds sha256_steps.compress sha256_steps.hash_after sha256_steps.digest_bytes sha256_steps.sha256
 returns-clause-no_news_of_two c = refl
+
+pub returns-clause-no_news_left : goal.returns-clause-no_news_left
+unfolding tag_of datagram_bytes datagram_at head_at sha256_steps.first_words sha256_steps.schedule sha256_steps.rounds sha256_steps.compress sha256_steps.hash_after sha256_steps.digest_bytes sha256_steps.sha256
+returns-clause-no_news_left c = refl
+
+pub returns-clause-another_tag : goal.returns-clause-another_tag
+unfolding tag_of datagram_bytes datagram_at head_at sha256_steps.first_words sha256_steps.schedule sha256_steps.rounds sha256_steps.compress sha256_steps.hash_after sha256_steps.digest_bytes sha256_steps.sha256
+returns-clause-another_tag c = refl
+
+pub returns-clause-another_tag_left : goal.returns-clause-another_tag_left
+unfolding tag_of datagram_bytes datagram_at head_at sha256_steps.first_words sha256_steps.schedule sha256_steps.rounds sha256_steps.compress sha256_steps.hash_after sha256_steps.digest_bytes sha256_steps.sha256
+returns-clause-another_tag_left c = refl
+
+pub returns-clause-another_sender : goal.returns-clause-another_sender
+unfolding tag_of datagram_bytes datagram_at head_at sha256_steps.first_words sha256_steps.schedule sha256_steps.rounds sha256_steps.compress sha256_steps.hash_after sha256_steps.digest_bytes sha256_steps.sha256
+returns-clause-another_sender c = refl
+
+pub returns-clause-other_names : goal.returns-clause-other_names
+unfolding tag_of datagram_bytes datagram_at head_at sha256_steps.first_words sha256_steps.schedule sha256_steps.rounds sha256_steps.compress sha256_steps.hash_after sha256_steps.digest_bytes sha256_steps.sha256
+returns-clause-other_names c = refl
 
 pub returns-clause-next : goal.returns-clause-next
 returns-clause-next c = refl
@@ -50,6 +78,9 @@ returns-clause-after_next c = refl
 
 pub returns-clause-untold : goal.returns-clause-untold
 returns-clause-untold c = refl
+
+pub returns-clause-untold_left : goal.returns-clause-untold_left
+returns-clause-untold_left c = refl
 
 pub returns-clause-votes : goal.returns-clause-votes
 returns-clause-votes c = refl

@@ -1,11 +1,12 @@
 -- The gate's port keeps the members of the port below, and what its gate is made of.
-use Rattle.std.proofs.Common.{Option, Some, ap, sym, subst, ◌∙◌}
+use Rattle.std.proofs.Common.{◌≡◌, Option, Some, ap, inl, inr, sym, subst, ◌∙◌}
+use Rattle.std.specs.Prelude.{Err}
 use Rattle.datagram_port.specs.Setup.{Setup}
-use Rattle.named_port.specs.Translator.{new_translator}
 use Rattle.oathd_database.specs.Setup.{setup_behind}
+use Rattle.oathd_database.specs.declared.fault.Fault.TheVariants.{Memory}
 use Rattle.oathd_database.specs.declared.gate.Front.{Front}
 use Rattle.oathd_database.specs.declared.gate.Front.TheVariants.{Gate}
-use Rattle.oathd_roster.specs.Served.{IsServedNamed}
+use Rattle.oathd_roster.specs.Served.{IsServedNamed, packer_of, translator_of}
 use Rattle.oathd_roster.proofs.ServedLemmas.{sealed_made, served_sealed}
 use Rattle.oathd_roster.proofs.serve.serve_front.Goals as goal
 
@@ -19,18 +20,23 @@ returns-in-Gate-clause-turns g c =
     let new = c.serve_named-in-Gate.new.node in
     let members = c.args.port.members.items in
     let naming = c.args.naming.now in
-    let start = new_translator naming.key naming.names naming.me naming.boot in
+    let start = translator_of naming in
+    let packer = packer_of naming in
     let gate = c.in-Gate.gate in
     let below = c.under_gate.ensures in
     let port = c.new-port.result in
     let parts = c.new-port.ensures.parts in
-    let run = c.serve_named-in-Gate.ensures.turns in
-    let last = run.1 in
-    let made = sealed_made port.gate gate port.port.skips_answers port.port.takes_loopback_alone port.port.members.items members parts.2
-    (ap (λ p. p.skips_answers) parts.0 ∙ below.skips ∙ c.requires.plain.0)
-    (ap (λ p. p.takes_loopback_alone) parts.0 ∙ below.hosts ∙ c.requires.plain.1)
-    (ap (λ p. p.members.items) parts.0 ∙ ap (λ m. m.items) below.members) in
-    subst (λ (front : Front). IsServedNamed held old new (setup_behind members front) start c.args.turns c.serve_named-in-Gate.result) (sym c.in-Gate.is)
-    (served_sealed held old new c.args.turns c.serve_named-in-Gate.result run.0 start last.port.skips_answers last.port.takes_loopback_alone
-    last.port.members.items last.port.calls.made (setup_behind members (Gate gate)) run.4 last.gate last.calls.events run.2 last.heard
-    (run.3 ∙ ap some_setup made))
+    let result = c.serve_named-in-Gate.result in
+    elim c.serve_named-in-Gate.ensures.turns [
+      | inl memory ↦ inl memory
+      | inr run ↦
+          let last = run.1 in
+          let made = sealed_made port.gate gate port.port.skips_answers port.port.takes_loopback_alone port.port.members.items members parts.2
+          (ap (λ p. p.skips_answers) parts.0 ∙ below.skips ∙ c.requires.plain.0)
+          (ap (λ p. p.takes_loopback_alone) parts.0 ∙ below.hosts ∙ c.requires.plain.1)
+          (ap (λ p. p.members.items) parts.0 ∙ ap (λ m. m.items) below.members) in
+          inr (subst (λ (front : Front). IsServedNamed held old new (setup_behind members front) start packer c.args.turns result) (sym c.in-Gate.is)
+          (served_sealed held old new c.args.turns result run.0 start packer last.port.skips_answers last.port.takes_loopback_alone
+          last.port.members.items last.port.calls.made (setup_behind members (Gate gate)) run.4 last.gate last.calls.events run.2 last.heard
+          (run.3 ∙ ap some_setup made)))
+    ]

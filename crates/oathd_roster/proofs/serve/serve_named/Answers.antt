@@ -1,19 +1,28 @@
--- The port of the run has the setup that it began with, and so the translator.
-use Rattle.std.proofs.Common.{◌∙◌, ap, sym, subst}
+-- The port of the run has the setup that it began with, and so the translator and the packer.
+use Rattle.std.proofs.Common.{◌≡◌, ◌∙◌, ℕ, List, ap, inl, inr, refl, sym, subst}
 use Rattle.std.specs.Prelude.{IsSome}
-use Rattle.named_port.specs.Translator.{new_translator}
+use Rattle.floor_port.specs.Packer.{new_packer}
+use Rattle.floor_port.specs.Runs.{at_start}
+use Rattle.oathd_roster.specs.Served.{packer_of, translator_of}
 use Rattle.oathd_roster.proofs.ServedLemmas.{served_under}
 use Rattle.oathd_roster.proofs.serve.serve_named.Goals as goal
 
 pub returns-clause-turns : goal.returns-clause-turns
 returns-clause-turns g c =
     let naming = c.args.naming.now in
+    let made = c.in-Ok.ensures in
     let port = c.new-port.result in
+    let below = c.new-port.ensures.port in
     let run = c.serve_port.ensures.turns in
     let last = run.1 in
-    let same = ap g.P.Port.setup c.new-port.ensures.port in
+    let same = ap g.P.Port.setup (ap (λ p. p.port) below ∙ made.0) in
+    let lent = c.deref.ensures.value in
+    let floors : port.port.calls.floors ≡ naming.floors.items = ap (λ p. p.calls.floors) below ∙ made.2 ∙ lent in
+    let start = made.1 ∙ ap (λ (f : List ℕ). new_packer naming.key naming.names naming.node.me naming.node.boot naming.node.members f) lent in
+    let packed = ap (λ (f : List ℕ). at_start (packer_of naming) f) (sym floors) in
     let served = served_under g.S.FloorStore.held c.args.node.now c.serve_port.new.node c.args.turns run.0
-    (new_translator naming.key naming.names naming.me naming.boot) port.translator last.translator port.calls.events last.calls.events
-    (g.P.Port.setup port.port) (g.P.Port.setup last.port) (g.P.Port.events last.port) c.new-port.ensures.translator c.new-port.ensures.calls
-    (subst IsSome (sym same) c.requires.known) run.2 run.3 last.after in
-    (run.0, last.port, served.0, served.1 ∙ same, run.4)
+    port.translator last.translator (translator_of naming) port.port.packer last.port.packer (packer_of naming)
+    port.calls.events last.calls.events last.port.calls.calls (g.P.Port.setup port.port.port) (g.P.Port.setup last.port.port) port.port.calls.floors last.port.calls.floors
+    (g.P.Port.events last.port.port) c.new-port.ensures.translator refl c.new-port.ensures.calls (ap (λ p. p.packer) below ∙ start) packed
+    (subst IsSome (sym same) c.requires.known) run.2 run.3 last.after last.port.after in
+    inr (run.0, last.port.port, served.0, served.1 ∙ same, run.4)

@@ -1,4 +1,4 @@
-use Rattle.std.proofs.Common.{◌≡◌, ◌∙◌, ℕ, ◌+◌, List, IfSome, ap, map, subst}
+use Rattle.std.proofs.Common.{◌≡◌, ◌∙◌, ℕ, ◌+◌, List, IfSome, ap, inl, inr, map, subst}
 use Rattle.std.specs.Global.{Vec}
 use Rattle.std.specs.declared.net.socket_addr.SocketAddrV4.{SocketAddrV4}
 use Rattle.node_log.specs.declared.text.Start.{Start}
@@ -6,7 +6,7 @@ use Rattle.oathd_roster.specs.Opened.{HasOpenedNamed}
 use Rattle.oathd_roster.specs.Served.{EndsServingNamed}
 use Rattle.oathd_roster.specs.declared.fault.RosterFault.{RosterFault}
 use Rattle.oathd_roster.specs.declared.fault.RosterFault.TheVariants.{Command}
-use Rattle.oathd_roster.proofs.ServedLemmas.{ends_front, ends_memory, ends_opening, ends_served, ends_socket, has_served, served_over, start_is}
+use Rattle.oathd_roster.proofs.ServedLemmas.{ends_front, ends_memory, ends_opening, ends_early, ends_served, ends_socket, has_served, not_early, packer_is, served_over, start_is}
 use Rattle.oathd_roster.proofs.UsersLemmas.{err_is, name_in, names_are}
 use Rattle.oathd_roster.proofs.serve.serve_named_store.Goals as goal
 
@@ -24,11 +24,12 @@ returns-clause-served g c =
     let names = c.in_ok-names.ensures.names ∙ ap (map name_in) c.in_ok-named.ensures.entries ∙ names_are cluster.salt users.book in
     let members = ap (λ (all : Vec SocketAddrV4). all.items) c.new-port.ensures.members in
     has_served g.S.Store g.D.Database.finds cluster c.args.moment serving (g.R.Read.remaining c.args.users) users.book users.floors.items
-    c.in_ok-named.ensures.users found counts c.in_ok-node.node c.serve_front.new.node boot opened c.in_ok-node.ensures.opened c.in_ok-node.ensures.book
-    c.in_ok-node.ensures.limits (c.in_ok-node.ensures.key ∙ key) c.in_ok-node.ensures.place
+    c.in_ok-named.ensures.users found counts c.in_ok-node.node c.serve_front.new.node boot c.in_ok-floors.floors.items opened c.in_ok-node.ensures.opened c.in_ok-node.ensures.book
+    c.in_ok-node.ensures.limits (c.in_ok-node.ensures.key ∙ c.bare-bare.ensures) c.in_ok-node.ensures.place
     (λ clean. ap (λ (start : Start). start.boot) c.start_of-start.ensures ∙ ap (λ (b : ℕ). b + 1) (c.in_ok-boot.ensures.reads.ok clean))
-    c.in_ok-served.served
-    (served_over serving.lines c.in_ok-front.front _ members c.in_ok-front.ensures.front c.me.ensures.value (start_is _ _ _ _ _ _ boot key names me) c.in_ok-served.ensures.turns)
+    c.in_ok-floors.ensures.floors c.in_ok-served.served
+    (served_over serving.lines c.in_ok-front.front _ _ members c.in_ok-front.ensures.front c.me.ensures.value (start_is _ _ _ _ _ _ boot key names me)
+    (packer_is _ _ _ _ _ _ boot _ _ _ key names me c.n.ensures.value) (not_early c.in_ok-served.served c.in_ok-served.ensures.turns))
 
 pub returns-in_err-served-clause-fault : goal.returns-in_err-served-clause-fault
 returns-in_err-served-clause-fault g c =
@@ -47,12 +48,15 @@ returns-in_err-served-clause-fault g c =
     err_is c.from_residual-in_err-served.result (Command fault)
     (λ (x : RosterFault). IfSome (g.R.Read.remaining c.args.users) (EndsServingNamed g.S.Store g.D.Database.finds cluster c.args.moment serving x))
     c.from_residual-in_err-served.ensures.1
-    (ends_served g.S.Store g.D.Database.finds cluster c.args.moment serving (g.R.Read.remaining c.args.users) users.book users.floors.items
-    c.in_ok-named.ensures.users found counts c.in_ok-node.node c.serve_front.new.node boot opened c.in_ok-node.ensures.opened c.in_ok-node.ensures.book
-    c.in_ok-node.ensures.limits (c.in_ok-node.ensures.key ∙ key) c.in_ok-node.ensures.place
+    (ends_early g.S.Store g.D.Database.finds cluster c.args.moment serving (g.R.Read.remaining c.args.users) users.book users.floors.items
+    c.in_ok-named.ensures.users fault c.in_err-served.ensures.turns
+    (λ served. ends_served g.S.Store g.D.Database.finds cluster c.args.moment serving (g.R.Read.remaining c.args.users) users.book users.floors.items
+    c.in_ok-named.ensures.users found counts c.in_ok-node.node c.serve_front.new.node boot c.in_ok-floors.floors.items opened c.in_ok-node.ensures.opened c.in_ok-node.ensures.book
+    c.in_ok-node.ensures.limits (c.in_ok-node.ensures.key ∙ c.bare-bare.ensures) c.in_ok-node.ensures.place
     (λ clean. ap (λ (start : Start). start.boot) c.start_of-start.ensures ∙ ap (λ (b : ℕ). b + 1) (c.in_ok-boot.ensures.reads.ok clean))
-    fault
-    (served_over serving.lines c.in_ok-front.front _ members c.in_ok-front.ensures.front c.me.ensures.value (start_is _ _ _ _ _ _ boot key names me) c.in_err-served.ensures.turns))
+    c.in_ok-floors.ensures.floors fault
+    (served_over serving.lines c.in_ok-front.front _ _ members c.in_ok-front.ensures.front c.me.ensures.value (start_is _ _ _ _ _ _ boot key names me)
+    (packer_is _ _ _ _ _ _ boot _ _ _ key names me c.n.ensures.value) served)))
 
 pub returns-in_err-key-clause-fault : goal.returns-in_err-key-clause-fault
 returns-in_err-key-clause-fault g c =
@@ -125,3 +129,14 @@ returns-in_err-served-clause-unlogged g c = λ off. c.in_err-served.ensures.unlo
 
 pub returns-clause-unlogged : goal.returns-clause-unlogged
 returns-clause-unlogged g c = λ off. c.in_ok-served.ensures.unlogged (c.log_of-log.ensures.none off)
+
+pub returns-in_err-floors-clause-fault : goal.returns-in_err-floors-clause-fault
+returns-in_err-floors-clause-fault g c =
+    let a = g.R.Read.remaining c.args.users in
+    let cluster = c.args.cluster.now in
+    let users = c.in_ok-named.named.users in
+    let fault = c.in_err-floors.field-0.0 in
+    err_is c.from_residual-in_err-floors.result (Command fault)
+    (λ (x : RosterFault). IfSome a (EndsServingNamed g.S.Store g.D.Database.finds cluster c.args.moment c.args.serving x))
+    c.from_residual-in_err-floors.ensures.1
+    (ends_opening g.S.Store g.D.Database.finds cluster c.args.moment c.args.serving a users.book users.floors.items c.in_ok-named.ensures.users fault c.in_err-floors.ensures.fault)

@@ -1,9 +1,10 @@
 -- The call is a receive of the port below, or a floor that was left.
-use Rattle.std.proofs.Common.{◌∷◌, [], ◌++◌, ◌∙◌, List, ℕ, length, sym, ap}
+use Rattle.std.proofs.Common.{◌∷◌, [], ◌++◌, ◌∙◌, List, ℕ, length, refl, sym, ap}
 use Rattle.datagram_port.specs.Port.{event_of_receive}
 use Rattle.floor_port.specs.Runs.{Came, Left}
 use Rattle.floor_port.proofs.CallLemmas.{after_noted, grows_came, handed_left, may_receive, none_left, some_left, told_noted}
 use Rattle.floor_port.proofs.OfferLemmas.{grows_none}
+use Rattle.floor_port.proofs.SetupLemmas.{setup_noted}
 use Rattle.floor_port.proofs.port.FloorPortPort.poll.Goals as goal
 
 pub invariant_of-self : goal.invariant_of-self
@@ -49,3 +50,18 @@ returns-clause-event g c =
     let noted = c.note_receive.ensures ∙ ap (λ (b : List ℕ). record old.calls { calls = old.calls.calls ++ Came (event_of_receive received b) ∷ [] }) c.as_slice.ensures in
     told_noted (g.P.Port.events old.port) old.packer c.take.new.packer old.calls c.note_receive.new.self (Came event)
     (event_of_receive c.take.result c.take.new.buffer) old.after noted c.take.ensures.after c.take.ensures.handed
+
+pub returns-in-Some-clause-stays : goal.returns-in-Some-clause-stays
+returns-in-Some-clause-stays g c =
+    let old = c.args.self.now in
+    let setup = g.P.Port.setup old.port in
+    setup_noted old.packer c.hand_in.new.self old.calls c.note_left.new.self Left setup setup c.hand_in.ensures.after c.note_left.ensures refl
+
+pub returns-clause-stays : goal.returns-clause-stays
+returns-clause-stays g c =
+    let old = c.args.self.now in
+    let received = c.in-Some-poll.received in
+    let buffer = c.poll.new.buffer in
+    let noted = c.note_receive.ensures ∙ ap (λ (b : List ℕ). record old.calls { calls = old.calls.calls ++ Came (event_of_receive received b) ∷ [] }) c.as_slice.ensures in
+    setup_noted old.packer c.take.new.packer old.calls c.note_receive.new.self (Came (event_of_receive received buffer))
+    (g.P.Port.setup old.port) (g.P.Port.setup c.take.new.port) c.take.ensures.after noted (c.take.ensures.stays ∙ c.in-Some-poll.ensures.stays)
