@@ -65,8 +65,11 @@ pub enum Cause<'a> {
     Floors(FloorsAdvice),
 }
 
-/// Returns the number of rows of the users file at `path`, or None if it cannot be read.
+/// Returns the number of rows of the users file at `path`, or None if it cannot be read again, as a pipe can't.
 fn rows_of(alloc: Global, rt: &HostRuntime, path: &str) -> Option<u64> {
+    if !fs::metadata(rt, path).ok()?.is_file() {
+        return None;
+    }
     let file = fs::open(rt, path).ok()?;
     let users = read_users(alloc, file, Settings::default(), 0).ok()?;
     Some(users.book.len() as u64)

@@ -4,13 +4,13 @@ ghost use Rattle.oathd_causes.specs.Causes.{key_cause};
 use secret_text::SecretFault;
 use thiserror::Error;
 
-/// The reason why a text is not a key of a cluster.
+/// The reason why a text is not a key of a cluster, and what to do.
 #[derive(Clone, Copy, Debug, PartialEq, Eq, Error)]
 pub enum KeyCause {
     /// The byte at this place, from 0, is not a hexadecimal digit.
-    #[error("byte {} is no hexadecimal digit", .0.saturating_add(1))]
+    #[error("byte {} is no hexadecimal digit: copy another member's; oathd new-key prints one", .0.saturating_add(1))]
     Character(usize),
-    #[error("a key has 32 to 128 hexadecimal digits, two for each byte")]
+    #[error("a key has 32 to 128 hexadecimal digits: copy another member's; oathd new-key prints one")]
     Length,
 }
 

@@ -40,7 +40,7 @@ pub enum StoreCause {
     #[error("the store of another cluster: its life, its names or its {0} members differ: mend the file or the path")]
     OtherCluster(u64),
     /// The store has no room for the new tokens.
-    #[error("the users file has new tokens, and a store has at most 10000 rows, those of retired tokens included")]
+    #[error("at most 10000 rows, retired ones too: take the new tokens out, or begin again with a new word of names")]
     Full,
     /// The store has a version that this program doesn't know.
     #[error("a store of version {0}: use the oathd that made it, or a newer one")]

@@ -11,6 +11,10 @@ use oathd_roster::RosterFault;
 use oathd_seats::SeatsFault;
 use thiserror::Error;
 
+/// What to do about a token that has the name of another one.
+const SAME_NAME_ADVICE: &str =
+    "the token in that row has the name of an earlier one: give its user another secret";
+
 /// A fault of a cluster file that gives names, or none, for a command over a store.
 #[derive(Clone, Copy, Debug, PartialEq, Eq, Error)]
 pub enum NamesFault {
@@ -57,7 +61,8 @@ pub fn roster_cause<'a>(rt: &HostRuntime, names: Names<'a>, fault: RosterFault) 
     let cause = match fault {
         RosterFault::AnotherCluster => cluster_in(rt, names.database),
         RosterFault::Full => Some(StoreCause::Full),
-        RosterFault::SameName(_) | RosterFault::Command(_) => return Cause::Path(names.users),
+        RosterFault::SameName(_) => return Cause::Advice(names.users, SAME_NAME_ADVICE),
+        RosterFault::Command(_) => return Cause::Path(names.users),
     };
     match cause {
         Some(cause) => Cause::Store(names.database, cause),
