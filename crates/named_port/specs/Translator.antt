@@ -9,8 +9,9 @@ use Rattle.named_port.specs.Wire.{is_of_one_token, named_at, numbered_of}
 use Rattle.node_log.specs.Differing.{nobody}
 use Rattle.node_log.specs.declared.gatekeeper.Older.{Older}
 
--- A translator of a node: the cluster's key, the names of its book, its number and boot, the greatest boot of each member that it
--- heard, from member 0 to 9, the last dropped datagram of an older boot, and whether each member differs, from 0 to 9.
+-- A translator of a node: the cluster's key, the names of its book, its number and boot, the greatest boot of each
+-- member that it heard, from member 0 to 9, the last dropped datagram of an older boot, and whether each member
+-- differs, from 0 to 9.
 pub record TranslatorRecord : Type 0 where
   pub key : List ℕ
   pub names : List (List ℕ)

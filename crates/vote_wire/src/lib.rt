@@ -1,8 +1,9 @@
 //! The datagrams that members send each other, as bytes.
 //!
 //! A datagram carries one message of [`vote_core`] from one member to another. It ends with a tag, which only a holder
-//! of the cluster's key can make. Anybody can make the tag of the bare key, which never leaves a process. [`read_message`] accepts what [`write_message`] writes and nothing else (the law
-//! [`one_spelling`]). No function allocates.
+//! of the cluster's key can make. Under the bare key, which is for a port in the same process, anybody can.
+//! [`read_message`] accepts what [`write_message`] writes and nothing else (the law [`one_spelling`]). No function
+//! allocates.
 #![tactic(auto)]
 
 mod bytes;
