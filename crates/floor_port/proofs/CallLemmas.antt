@@ -9,7 +9,6 @@ use Rattle.datagram_port.specs.declared.port.Sender.{Sender}
 use Rattle.datagram_port.specs.declared.port.Sender.TheVariants.{Client, Peer}
 use Rattle.named_wire.specs.declared.head.Head.{Head}
 use Rattle.floor_port.specs.Packer.{PackerRecord, after_event, after_member, after_offer, after_told, floor_head, new_packer, next_bytes, told_at, told_by, turns_due, with_others}
-use Rattle.floor_port.specs.Pace.{after_heard}
 use Rattle.floor_port.specs.Rows.{RowsRecord, after_news, after_turn, after_turns, after_witness, news}
 use Rattle.floor_port.specs.Runs.{Call, Came, Left, Offer, IsAfter, may_call, may_make, after, after_calls, at_start, below, below_events, handed, handed_events}
 use Rattle.floor_port.specs.declared.record.Record.{Record}
@@ -54,12 +53,9 @@ turns_names : (rows : RowsRecord) (turns : ℕ) → (after_turns rows turns).nam
 turns_names rows zero = refl
 turns_names rows (suc turns) = turns_names (after_turn rows) turns
 
-start_member : (p : PackerRecord) (member : ℕ) (bytes floors : List ℕ) → at_start (after_member p member bytes) floors ≡ at_start p floors
-start_member p member bytes floors = go (eqb (length bytes) 0)
-  where
-    go : (none : Bool) → at_start (cond none p (record p { pace = after_heard p.pace member (length p.rows.told) })) floors ≡ at_start p floors
-    go true = refl
-    go false = refl
+start_member : (p : PackerRecord) (member : ℕ) (told : Option (Head × List NamedFloor)) (floors : List ℕ) → at_start (after_member p member told) floors ≡ at_start p floors
+start_member p member None floors = refl
+start_member p member (Some told) floors = refl
 
 start_others : (p : PackerRecord) (head : Head) (others : List NamedFloor) (floors : List ℕ) → at_start (with_others p head others) floors ≡ at_start p floors
 start_others p head [] floors = refl
@@ -71,7 +67,8 @@ start_told p (Some told) floors =
     start_others (record p { rows = after_news p.rows told.1 }) (floor_head told.0) (news p.rows.names p.rows.known told.1) floors
 
 start_datagram : (p : PackerRecord) (member : ℕ) (bytes floors : List ℕ) → at_start (after_event p (Received (Peer member) bytes)) floors ≡ at_start p floors
-start_datagram p member bytes floors = start_told (after_member p member bytes) (told_by p member bytes) floors ∙ start_member p member bytes floors
+start_datagram p member bytes floors = let told = told_by p member bytes in
+    start_told (after_member p member told) told floors ∙ start_member p member told floors
 
 start_event : (p : PackerRecord) (event : PortEvent) (floors : List ℕ) → at_start (after_event p event) floors ≡ at_start p floors
 start_event p (Received (Peer member) bytes) floors = start_datagram p member bytes floors

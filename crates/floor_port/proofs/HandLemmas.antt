@@ -107,16 +107,13 @@ abbrev with_pace : PackerRecord → PaceRecord → PackerRecord
 with_pace p pace = record p { pace = pace }
 
 -- a datagram of a member changes the pace alone
-record IsPaced (p : PackerRecord) (member : ℕ) (bytes : List ℕ) : Type 0 where
+record IsPaced (p : PackerRecord) (member : ℕ) (told : Option (Head × List NamedFloor)) : Type 0 where
   pace : PaceRecord
-  is : after_member p member bytes ≡ with_pace p pace
+  is : after_member p member told ≡ with_pace p pace
 
-paced : (p : PackerRecord) (member : ℕ) (bytes : List ℕ) → IsPaced p member bytes
-paced p member bytes = go (eqb (length bytes) 0) refl
-  where
-    go : (none : Bool) → eqb (length bytes) 0 ≡ none → IsPaced p member bytes
-    go true is = record { pace = p.pace; is = ap (λ (b : Bool). cond b p (record p { pace = after_heard p.pace member (length p.rows.told) })) is }
-    go false is = record { pace = after_heard p.pace member (length p.rows.told); is = ap (λ (b : Bool). cond b p (record p { pace = after_heard p.pace member (length p.rows.told) })) is }
+paced : (p : PackerRecord) (member : ℕ) (told : Option (Head × List NamedFloor)) → IsPaced p member told
+paced p member None = record { pace = p.pace; is = refl }
+paced p member (Some told) = record { pace = after_heard p.pace member (length p.rows.told); is = refl }
 
 -- ---- one call
 
@@ -171,9 +168,9 @@ left_told p pace all member bytes (Some told) e came old =
     (told_news p all member bytes told e came)
 
 left_datagram : (p : PackerRecord) (all : List Call) (member : ℕ) (bytes : List ℕ) → Among all (Came (from_member member bytes)) → AreTold p.key p.me all p.pending.head p.pending.floors
-    → KeepsTold p all (after_told (after_member p member bytes) (told_by p member bytes))
+    → KeepsTold p all (after_told (after_member p member (told_by p member bytes)) (told_by p member bytes))
 left_datagram p all member bytes came told =
-    let q = paced p member bytes in
+    let q = paced p member (told_by p member bytes) in
     subst (λ (x : PackerRecord). KeepsTold p all (after_told x (told_by p member bytes))) (sym q.is)
     (left_told p q.pace all member bytes (told_by p member bytes) refl came told)
 

@@ -1,5 +1,5 @@
 -- The setup of a port that tells floors stays.
-use Rattle.std.proofs.Common.{◌≡◌, ◌∙◌, ℕ, List, [], ◌∷◌, ◌++◌, Option, ap}
+use Rattle.std.proofs.Common.{◌≡◌, ◌∙◌, [], ◌∷◌, ◌++◌, Option, ap}
 use Rattle.datagram_port.specs.Setup.{Naming, Setup, under_names}
 use Rattle.std.specs.Option.{option_map}
 use Rattle.floor_port.specs.Packer.{PackerRecord}

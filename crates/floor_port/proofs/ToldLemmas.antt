@@ -1,5 +1,5 @@
 -- What a port tells over its calls, and floors that rise.
-use Rattle.std.proofs.Common.{◌≡◌, ℕ, zero, suc, ◌+◌, ◌<◌, ◌≤◌, Bool, true, false, cond, eqb, ltb, List, [], ◌∷◌, ◌++◌, length, take, drop, Option, Some, None, refl, sym, ap, subst, ◌∙◌, arith, true≢false, inl, inr}
+use Rattle.std.proofs.Common.{◌≡◌, ℕ, zero, suc, ◌+◌, ◌<◌, ◌≤◌, Bool, true, false, cond, eqb, ltb, List, [], ◌∷◌, ◌++◌, take, drop, Option, Some, None, refl, sym, ap, subst, ◌∙◌, arith, true≢false, inl, inr}
 use Rattle.std.specs.Prelude.{◌⊎◌, slice_get, slice_index, slice_set}
 use Rattle.std.proofs.lemmas.Bool.{and_parts, eqb-false, ltb-true}
 use Rattle.std.proofs.lemmas.List.{length-take}
@@ -10,7 +10,6 @@ use Rattle.named_port.specs.Names.{number_of}
 use Rattle.named_wire.specs.declared.head.Head.{Head}
 use Rattle.floor_port.specs.Floors.{floors_body}
 use Rattle.floor_port.specs.Packer.{PackerRecord, after_member, after_told, body_offers, floor_head, floors_datagram, member_offer, new_packer, told_by, turn_offers, turns_due, with_others}
-use Rattle.floor_port.specs.Pace.{after_heard}
 use Rattle.floor_port.specs.Promises.{Among, IsOwnFloor, IsWitnessed, TellsFloors}
 use Rattle.floor_port.specs.Rows.{RowsRecord, after_floor, after_floors, after_news, after_turn, after_turns, after_witness, named_floors, news, next_floors, raised}
 use Rattle.floor_port.specs.Runs.{Call, Came, Left, Offer, after, after_calls, below, below_events, may_call, may_make}
@@ -60,12 +59,9 @@ turns_rise : (rows : RowsRecord) (turns : ℕ) → HaveRisen rows (after_turns r
 turns_rise rows zero = same_rise rows
 turns_rise rows (suc turns) = let rest = turns_rise (after_turn rows) turns in record { told = rest.told; known = rest.known }
 
-member_rows : (p : PackerRecord) (member : ℕ) (bytes : List ℕ) → (after_member p member bytes).rows ≡ p.rows
-member_rows p member bytes = go (eqb (length bytes) 0)
-  where
-    go : (none : Bool) → (cond none p (record p { pace = after_heard p.pace member (length p.rows.told) })).rows ≡ p.rows
-    go true = refl
-    go false = refl
+member_rows : (p : PackerRecord) (member : ℕ) (told : Option (Head × List NamedFloor)) → (after_member p member told).rows ≡ p.rows
+member_rows p member None = refl
+member_rows p member (Some told) = refl
 
 -- the news that are left change no row
 others_rows : (p : PackerRecord) (head : Head) (others : List NamedFloor) → (with_others p head others).rows ≡ p.rows
@@ -82,10 +78,10 @@ floors_rise : (p : PackerRecord) (told : Option (Head × List NamedFloor)) → H
 floors_rise p None = same_rise p.rows
 floors_rise p (Some told) = subst (HaveRisen p.rows) (sym (news_rows p told)) (news_rise p.rows told.1)
 
-datagram_rise : (p : PackerRecord) (member : ℕ) (bytes : List ℕ) → HaveRisen p.rows (after_told (after_member p member bytes) (told_by p member bytes)).rows
-datagram_rise p member bytes =
-    subst (λ (rows : RowsRecord). HaveRisen rows (after_told (after_member p member bytes) (told_by p member bytes)).rows) (member_rows p member bytes)
-    (floors_rise (after_member p member bytes) (told_by p member bytes))
+datagram_rise : (p : PackerRecord) (member : ℕ) (told : Option (Head × List NamedFloor)) → HaveRisen p.rows (after_told (after_member p member told) told).rows
+datagram_rise p member told =
+    subst (λ (rows : RowsRecord). HaveRisen rows (after_told (after_member p member told) told).rows) (member_rows p member told)
+    (floors_rise (after_member p member told) told)
 
 witness_rise : (rows : RowsRecord) (floor : Option NamedFloor) → HaveRisen rows (after_witness rows floor)
 witness_rise rows None = same_rise rows
@@ -95,7 +91,7 @@ witness_rise rows (Some floor) = record {
 }
 
 call_rise : (p : PackerRecord) (call : Call) → HaveRisen p.rows (after p call).rows
-call_rise p (Came (Received (Peer member) bytes)) = datagram_rise p member bytes
+call_rise p (Came (Received (Peer member) bytes)) = datagram_rise p member (told_by p member bytes)
 call_rise p (Came (Received (Client number) bytes)) = same_rise p.rows
 call_rise p (Came Quiet) = turns_rise p.rows (turns_due p)
 call_rise p (Came Faulted) = same_rise p.rows
@@ -162,11 +158,11 @@ floors_told : (p : PackerRecord) (told : Option (Head × List NamedFloor)) → (
 floors_told p None = refl
 floors_told p (Some told) = ap (λ (rows : RowsRecord). rows.told) (news_rows p told)
 
-datagram_told : (p : PackerRecord) (member : ℕ) (bytes : List ℕ) → (after_told (after_member p member bytes) (told_by p member bytes)).rows.told ≡ p.rows.told
-datagram_told p member bytes = floors_told (after_member p member bytes) (told_by p member bytes) ∙ ap (λ (rows : RowsRecord). rows.told) (member_rows p member bytes)
+datagram_told : (p : PackerRecord) (member : ℕ) (told : Option (Head × List NamedFloor)) → (after_told (after_member p member told) told).rows.told ≡ p.rows.told
+datagram_told p member told = floors_told (after_member p member told) told ∙ ap (λ (rows : RowsRecord). rows.told) (member_rows p member told)
 
 own_one : (p : PackerRecord) (floors : List ℕ) (all : List Call) (call : Call) → Among all call → AreOwn p.rows.names floors all p.rows.told → AreOwn p.rows.names floors all (after p call).rows.told
-own_one p floors all (Came (Received (Peer member) bytes)) made own = subst (AreOwn p.rows.names floors all) (sym (datagram_told p member bytes)) own
+own_one p floors all (Came (Received (Peer member) bytes)) made own = subst (AreOwn p.rows.names floors all) (sym (datagram_told p member (told_by p member bytes))) own
 own_one p floors all (Came (Received (Client number) bytes)) made own = own
 own_one p floors all (Came Quiet) made own = subst (AreOwn p.rows.names floors all) (sym (turns_told p.rows (turns_due p))) own
 own_one p floors all (Came Faulted) made own = own

@@ -107,11 +107,12 @@ next_bytes packer = first_bytes packer.key packer.pending.head packer.pending.fl
 abbrev pub after_next : PackerRecord → PackerRecord
 after_next packer = record packer { pending = record packer.pending { floors = drop 1 packer.pending.floors } }
 
--- the packer after a datagram of a member came, if it has bytes
-abbrev pub after_member : PackerRecord → ℕ → List ℕ → PackerRecord
-after_member packer member bytes =
-    if length bytes == 0 then packer
-    else record packer { pace = after_heard packer.pace member (length packer.rows.told) }
+-- The packer after a member told floors, or didn't. A member is heard by the floors that it tells: other bytes may come
+-- from its address without its key.
+abbrev pub after_member : PackerRecord → ℕ → Option (Head × List NamedFloor) → PackerRecord
+after_member packer member None = packer
+after_member packer member (Some told) =
+    record packer { pace = after_heard packer.pace member (length packer.rows.told) }
 
 -- the first bytes if there are any, else the others
 abbrev pub bytes_or : Option (List ℕ) → List ℕ → List ℕ
@@ -177,7 +178,8 @@ after_quiet_turn packer = record packer {
 -- the packer after an event of the port below
 abbrev pub after_event : PackerRecord → PortEvent → PackerRecord
 after_event packer (Received (Peer member) bytes) =
-    after_told (after_member packer member bytes) (told_by packer member bytes)
+    let told = told_by packer member bytes in
+    after_told (after_member packer member told) told
 after_event packer (Received (Client number) bytes) = packer
 after_event packer Quiet = after_quiet_turn packer
 after_event packer Faulted = packer

@@ -60,7 +60,7 @@ impl Pace {
         }
     }
 
-    /// Notes that a member was heard. If it was silent, a fast round begins.
+    /// Notes that a member was heard to tell floors. If it was silent, a fast round begins.
     pub(crate) fn note_heard(&mut self, member: u8, rows: usize)
         ensures { self.new ≡ spec.after_heard self.old member rows }
     {

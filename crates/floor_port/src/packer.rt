@@ -209,18 +209,16 @@ impl<'k> Packer<'k> {
         Some(write_datagram(self.key, head, &floor_body(first)))
     }
 
-    /// Notes that `member` was heard, and returns the datagram of the first of the news that it tells, or None. The other
-    /// news are left to hand in.
+    /// Notes that `member` was heard if it tells floors, and returns the datagram of the first of the news, or None.
+    /// The other news are left to hand in.
     fn unpack(&mut self, member: u8, bytes: &[u8]) -> Option<ArrayVec<u8, MAX_DATAGRAM_LEN>>
         ensures first { option_map (λ bytes. bytes.items) result
             ≡ spec.first_told self.old (spec.told_by self.old member bytes.now) }
-        ensures after { self.new ≡ spec.after_told (spec.after_member self.old member bytes.now)
-            (spec.told_by self.old member bytes.now) }
+        ensures after { let told = spec.told_by self.old member bytes.now in
+            self.new ≡ spec.after_told (spec.after_member self.old member told) told }
     {
-        if !bytes.is_empty() {
-            self.pace.note_heard(member, self.rows.len());
-        }
         let (head, floors) = self.told_by(member, bytes)?;
+        self.pace.note_heard(member, self.rows.len());
         self.take_told(head, &floors)
     }
 

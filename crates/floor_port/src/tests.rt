@@ -308,13 +308,16 @@ fn offers_after(alloc: Global, comings: &[Coming<'_>]) -> Result<usize, Fail> {
     Ok(offers)
 }
 
-/// In a fast round all 21 floors are told at once: at the start, and after a silent member was heard.
+/// In a fast round all 21 floors are told at once: at the start, and after a silent member told floors. Other bytes
+/// from its address begin none.
 #[test]
 fn rounds_are_fast_at_the_start(rt: HostRuntime) -> Result<(), Fail> {
     let alloc = rt.alloc();
     let quiet = Coming::Quiet;
-    let heard = from_1(b"OV");
+    let told = write_datagram::<MAX_DATAGRAM_LEN>(&key()?, head(Kind::Floor), &[0; 24]);
+    let (heard, other) = (from_1(&told), from_1(b"OV"));
     assert!(rt; offers_after(alloc, &[quiet])? == 4);
+    assert!(rt; offers_after(alloc, &[quiet, other, quiet, quiet])? == 8);
     assert!(rt; offers_after(alloc, &[quiet, quiet])? == 6);
     assert!(rt; offers_after(alloc, &[quiet, heard, quiet, quiet])? == 10);
     assert!(rt; offers_after(alloc, &[quiet, heard, quiet, heard, quiet])? == 10);

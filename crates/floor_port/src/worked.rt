@@ -124,7 +124,7 @@ pub fn packers_are_worked()
         ≡ replicate 2 (after_event node_2 (from_1 two_floors)) }
     ensures another_tag { handed_in (record node_2 { key = replicate 32 1 }) (from_1 two_floors) ≡ from_1 two_floors }
     ensures another_tag_left { after_event (record node_2 { key = replicate 32 1 }) (from_1 two_floors)
-        ≡ record node_2 { key = replicate 32 1; pace = pace_with 25 1 } }
+        ≡ record node_2 { key = replicate 32 1 } }
     ensures another_sender { handed_in node_2 (Received (Peer 3) two_floors) ≡ Received (Peer 3) two_floors }
     ensures other_names { map (λ byte. handed_in (record node_2 { rows = new_rows (name_with byte ∷ []) (5 ∷ []) })
         (from_1 two_floors)) (0xcc ∷ 0xdd ∷ [])
@@ -138,10 +138,10 @@ pub fn packers_are_worked()
     ensures unchanged { map (handed_in node_2)
         (Received (Client 1) one_floor ∷ Quiet ∷ Faulted ∷ Offered (Peer 1) one_floor ∷ [])
         ≡ Received (Client 1) one_floor ∷ Quiet ∷ Faulted ∷ Offered (Peer 1) one_floor ∷ [] }
-    ensures heard { after_event node_2 (from_1 deny_of_9) ≡ record node_2 { pace = pace_with 25 1 } }
     ensures unheard { map (after_event node_2)
-        (from_1 [] ∷ Received (Client 1) one_floor ∷ Faulted ∷ Offered (Peer 1) [] ∷ [])
-        ≡ replicate 4 node_2 }
+        (from_1 [] ∷ from_1 deny_of_9 ∷ Received (Peer 3) two_floors ∷ Received (Client 1) one_floor ∷ Faulted
+        ∷ Offered (Peer 1) [] ∷ [])
+        ≡ replicate 6 node_2 }
     ensures witness { after_offer node_2 (Peer 1) deny_of_9
         ≡ record node_2 { rows = rows_with (9 ∷ 5 ∷ 5 ∷ []) (9 ∷ 5 ∷ 5 ∷ []) 0 } }
     ensures no_witness { after_offer node_2 (Peer 1) two_floors ≡ node_2 }

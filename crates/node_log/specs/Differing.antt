@@ -1,11 +1,22 @@
 -- The members from which datagrams came that a node can't read.
-use Rattle.std.specs.Prelude.{ℕ, Bool, false, if◌then◌else◌, List, [], ◌∷◌, replicate, slice_index_or, codes}
+use Rattle.std.specs.Prelude.{ℕ, Bool, false, true, if◌then◌else◌, List, [], ◌∷◌, replicate, slice_index_or, slice_set, codes}
 use Rattle.std.specs.List.{flat_map}
 use Rattle.node_log.specs.Members.{member_line}
 
 -- Nobody differs. Whether each member does is a list, from member 0, which there is not, to member 9.
 abbrev pub nobody : List Bool
 nobody = replicate 10 false
+
+-- the members that differ, with those of the given numbers that differ by another list
+abbrev pub with_others : List ℕ → List Bool → List Bool → List Bool
+with_others [] others differing = differing
+with_others (number ∷ numbers) others differing =
+    with_others numbers others
+    (if slice_index_or others number false then slice_set differing number true else differing)
+
+-- the members that differ by one list or by another
+abbrev pub either : List Bool → List Bool → List Bool
+either differing others = with_others (1 ∷ 2 ∷ 3 ∷ 4 ∷ 5 ∷ 6 ∷ 7 ∷ 8 ∷ 9 ∷ []) others differing
 
 -- the line of a member if it differs, or nothing
 abbrev pub differs_text : List Bool → ℕ → List ℕ

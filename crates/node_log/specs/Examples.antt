@@ -1,5 +1,8 @@
 -- Worked cases: lines, members, minutes and seconds.
 use Rattle.std.specs.Prelude.{ℕ, Bool, true, List, [], ◌∷◌, slice_set, codes}
+use Rattle.vote_core.specs.declared.message.Message.TheVariants.{Floor}
+use Rattle.vote_wire.specs.Datagram.{datagram_bytes}
+use Rattle.vote_wire.specs.Key.{bare}
 use Rattle.node_log.specs.Asked.{AskedLine}
 use Rattle.node_log.specs.Differing.{nobody}
 use Rattle.node_log.specs.declared.bad_lines.BadLines.{BadLines}
@@ -21,6 +24,10 @@ two_lines = ann ∷ bob ∷ []
 -- a member by its number, whether it is heard, and its number of consecutive quiet turns
 abbrev pub member : ℕ → Bool → ℕ → Member
 member number heard quiets = record { number = number; is_heard = heard; quiets = quiets }
+
+-- a datagram of member 2 to member 1, under the bare key
+abbrev pub made_by_2 : List ℕ
+made_by_2 = datagram_bytes bare 2 1 (Floor 0 5)
 
 -- a minute by its number of quiet turns
 abbrev pub minute : ℕ → Minute

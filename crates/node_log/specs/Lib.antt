@@ -5,4 +5,5 @@ pub mod Examples
 pub mod Log
 pub mod Members
 pub mod Minute
+pub mod Read
 pub mod Text

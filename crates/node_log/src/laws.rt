@@ -3,14 +3,15 @@ ghost use Rattle.datagram_port.specs.Port.{Faulted, Offered, Quiet, Received};
 ghost use Rattle.datagram_port.specs.declared.port.Sender.TheVariants.{Client, Peer};
 ghost use Rattle.client_lines.specs.Request.{Request, request_at};
 ghost use Rattle.node_log.specs.Asked.{AskedLine, nonce_of, place_of, user_at, with_line, with_one, without};
-ghost use Rattle.node_log.specs.Examples.{ann, bob, member, minute, only, second, two_lines};
+ghost use Rattle.node_log.specs.Examples.{ann, bob, made_by_2, member, minute, only, second, two_lines};
 ghost use Rattle.sealed_port.specs.Causes.{nothing};
 ghost use Rattle.node_log.specs.BadLines.{bad_lines_after, new_second};
-ghost use Rattle.node_log.specs.Differing.{differing_text, nobody};
+ghost use Rattle.node_log.specs.Differing.{differing_text, either, nobody};
 ghost use Rattle.node_log.specs.Members.{member_line};
 ghost use Rattle.node_log.specs.Minute.{minute_after, minute_at_receive, minute_text, new_minute, older_line, unopened_line};
-ghost use Rattle.node_log.specs.Log.{Remembers, Tells, asked_after, asked_after_all, members_after, told_of};
+ghost use Rattle.node_log.specs.Log.{Remembers, Tells, asked_after, asked_after_all, differing_after, differing_at_receive, members_after, told_of};
 ghost use Rattle.node_log.specs.Text.{answered_line, client_text, end_line, roster_line, shown_user, start_line};
+ghost use Rattle.vote_wire.specs.Key.{bare};
 
 /// Worked cases. The lines of a log, byte by byte.
 ///
@@ -60,33 +61,53 @@ pub fn lines_are_worked()
 
 /// Worked cases. The text of a record, entry by entry.
 ///
-/// A client's datagram is a remembered line. A member's datagram makes one line that the member is heard. An answer has
-/// its line, and a datagram to a member has none. The 25th consecutive quiet turn makes a member silent, and no other
-/// one does.
+/// A client's datagram is a remembered line. The first datagram that a member made makes one line that the member is
+/// heard. An answer has its line, and a datagram to a member has none. The 25th consecutive quiet turn makes a member
+/// silent, and no other one does.
 pub fn records_are_worked()
     ensures asked { asked_after (Received (Client 7) (codes "CHECK k1 ann 755224 -")) [] ≡ ann ∷ [] }
-    ensures received { told_of (Received (Client 7) (codes "CHECK k1 ann 755224 -")) [] (member 2 false 0 ∷ [])
+    ensures received { told_of bare (Received (Client 7) (codes "CHECK k1 ann 755224 -")) [] (member 2 false 0 ∷ [])
         new_second ≡ [] }
-    ensures answered { told_of (Offered (Client 7) (codes "OK k1 0")) two_lines [] new_second
+    ensures answered { told_of bare (Offered (Client 7) (codes "OK k1 0")) two_lines [] new_second
         ≡ answered_line 7 (Some (codes "ann")) (codes "OK k1 0") }
     ensures once { asked_after (Offered (Client 7) (codes "OK k1 0")) two_lines ≡ bob ∷ [] }
-    ensures sent { told_of (Offered (Peer 2) (codes "OK k1 0")) two_lines (member 2 false 0 ∷ []) new_second ≡ [] }
-    ensures heard { told_of (Received (Peer 2) (79 ∷ [])) [] (member 2 false 9 ∷ member 3 false 9 ∷ [])
+    ensures sent { told_of bare (Offered (Peer 2) (codes "OK k1 0")) two_lines (member 2 false 0 ∷ []) new_second
+        ≡ [] }
+    ensures heard { told_of bare (Received (Peer 2) made_by_2) [] (member 2 false 9 ∷ member 3 false 9 ∷ [])
         new_second ≡ codes "heard member=2\n" }
-    ensures known { told_of (Received (Peer 2) (79 ∷ [])) [] (member 2 true 9 ∷ []) new_second ≡ [] }
-    ensures now_heard { members_after (Received (Peer 2) (79 ∷ [])) (member 2 false 9 ∷ member 3 false 9 ∷ [])
+    ensures known { told_of bare (Received (Peer 2) made_by_2) [] (member 2 true 9 ∷ []) new_second ≡ [] }
+    ensures now_heard { members_after bare (Received (Peer 2) made_by_2) (member 2 false 9 ∷ member 3 false 9 ∷ [])
         ≡ member 2 true 0 ∷ member 3 false 9 ∷ [] }
-    ensures without_bytes { told_of (Received (Peer 2) []) [] (member 2 false 9 ∷ []) new_second ≡ [] }
-    ensures not_heard { members_after (Received (Peer 2) []) (member 2 false 9 ∷ []) ≡ member 2 false 9 ∷ [] }
-    ensures silent { told_of Quiet [] (member 2 true 23 ∷ member 3 true 24 ∷ member 4 false 25 ∷ [])
+    ensures unread { map (λ bytes. told_of bare (Received (Peer 2) bytes) [] (member 2 false 9 ∷ []) new_second)
+        ([] ∷ (79 ∷ []) ∷ []) ≡ [] ∷ [] ∷ [] }
+    ensures not_heard { map (λ bytes. members_after bare (Received (Peer 2) bytes) (member 2 false 9 ∷ []))
+        ([] ∷ (79 ∷ []) ∷ []) ≡ replicate 2 (member 2 false 9 ∷ []) }
+    ensures of_another { told_of bare (Received (Peer 3) made_by_2) [] (member 2 false 9 ∷ member 3 false 9 ∷ [])
+        new_second ≡ [] }
+    ensures silent { told_of bare Quiet [] (member 2 true 23 ∷ member 3 true 24 ∷ member 4 false 25 ∷ [])
         new_second ≡ codes "silent member=3\n" }
-    ensures now_silent { members_after Quiet (member 2 true 23 ∷ member 3 true 24 ∷ member 4 false 25 ∷ [])
+    ensures now_silent { members_after bare Quiet (member 2 true 23 ∷ member 3 true 24 ∷ member 4 false 25 ∷ [])
         ≡ member 2 true 24 ∷ member 3 false 25 ∷ member 4 false 25 ∷ [] }
-    ensures fault { told_of Faulted two_lines (member 2 true 24 ∷ []) new_second ≡ [] }
+    ensures fault { told_of bare Faulted two_lines (member 2 true 24 ∷ []) new_second ≡ [] }
     ensures whole { asked_after_all (Received (Client 7) (codes "CHECK k1 ann 755224 -") ∷ Quiet
         ∷ Received (Client 7) (codes "RESYNC k2 bob 287082 359152 pin") ∷ Faulted
         ∷ Received (Peer 2) (codes "CHECK k1 ann 755224 -") ∷ Offered (Peer 2) (codes "OK k2 0")
         ∷ Offered (Client 7) (codes "OK k1 0") ∷ []) [] ≡ bob ∷ [] }
+{}
+
+/// Worked cases. The members that differ: a datagram with bytes came from their address that they didn't make.
+pub fn differing_are_worked()
+    ensures unread { differing_after bare (Received (Peer 2) (79 ∷ [])) (only 4) ≡ slice_set (only 4) 2 true }
+    ensures read { differing_after bare (Received (Peer 2) made_by_2) (only 4) ≡ only 4 }
+    ensures of_another { differing_after bare (Received (Peer 3) made_by_2) nobody ≡ only 3 }
+    ensures without_bytes { differing_after bare (Received (Peer 2) []) nobody ≡ nobody }
+    ensures others { map (λ entry. differing_after bare entry (only 4)) (Received (Client 7) (79 ∷ []) ∷ Quiet
+        ∷ Faulted ∷ Offered (Peer 2) (79 ∷ []) ∷ []) ≡ replicate 4 (only 4) }
+    ensures begins { map (λ quiets. differing_at_receive (minute quiets) (only 4)) (299 ∷ 300 ∷ [])
+        ≡ only 4 ∷ nobody ∷ [] }
+    ensures both { either (only 4) (slice_set (only 1) 9 true) ≡ slice_set (slice_set (only 1) 4 true) 9 true }
+    ensures one { map (either nobody) (only 0 ∷ only 7 ∷ []) ≡ nobody ∷ only 7 ∷ [] }
+    ensures nobody_else { either (only 7) nobody ≡ only 7 }
 {}
 
 /// Worked cases. The lines of the datagrams that a port passed over, and the minutes of a log.
@@ -124,12 +145,12 @@ pub fn minutes_are_worked()
 
 /// Worked cases. The answers `NO - BADLINE` of a second: the eleventh has no line, and the fifth quiet turn counts it.
 pub fn bad_lines_are_worked()
-    ensures tenth { told_of (Offered (Client 7) (codes "NO - BADLINE")) [] [] (second 0 9)
+    ensures tenth { told_of bare (Offered (Client 7) (codes "NO - BADLINE")) [] [] (second 0 9)
         ≡ answered_line 7 None (codes "NO - BADLINE") }
-    ensures eleventh { told_of (Offered (Client 7) (codes "NO - BADLINE")) [] [] (second 0 10) ≡ [] }
-    ensures another_answer { told_of (Offered (Client 7) (codes "NO k1 UNKNOWN")) [] [] (second 0 10)
+    ensures eleventh { told_of bare (Offered (Client 7) (codes "NO - BADLINE")) [] [] (second 0 10) ≡ [] }
+    ensures another_answer { told_of bare (Offered (Client 7) (codes "NO k1 UNKNOWN")) [] [] (second 0 10)
         ≡ answered_line 7 None (codes "NO k1 UNKNOWN") }
-    ensures sealed { told_of (Offered (Client 281474976710663) (codes "NO - BADLINE")) [] [] (second 0 10)
+    ensures sealed { told_of bare (Offered (Client 281474976710663) (codes "NO - BADLINE")) [] [] (second 0 10)
         ≡ answered_line 281474976710663 None (codes "NO - BADLINE") }
     ensures counted { bad_lines_after (Offered (Client 7) (codes "NO - BADLINE")) (second 3 10) ≡ second 3 11 }
     ensures most { bad_lines_after (Offered (Client 7) (codes "NO - BADLINE")) (second 0 (2 ^ 64 - 1))
@@ -138,9 +159,9 @@ pub fn bad_lines_are_worked()
         ∷ Offered (Client 281474976710663) (codes "NO - BADLINE") ∷ Offered (Peer 2) (codes "NO - BADLINE")
         ∷ Received (Client 7) [] ∷ Faulted ∷ []) ≡ replicate 5 (second 3 10) }
     ensures quiet { map (bad_lines_after Quiet) (second 3 12 ∷ second 4 12 ∷ []) ≡ second 4 12 ∷ new_second ∷ [] }
-    ensures more { map (told_of Quiet [] []) (second 4 133 ∷ second 4 11 ∷ second 4 10 ∷ second 3 133 ∷ [])
+    ensures more { map (told_of bare Quiet [] []) (second 4 133 ∷ second 4 11 ∷ second 4 10 ∷ second 3 133 ∷ [])
         ≡ codes "badline more=123\n" ∷ codes "badline more=1\n" ∷ [] ∷ [] ∷ [] }
-    ensures with_silence { told_of Quiet [] (member 2 true 24 ∷ []) (second 4 12)
+    ensures with_silence { told_of bare Quiet [] (member 2 true 24 ∷ []) (second 4 12)
         ≡ codes "silent member=2\nbadline more=2\n" }
 {}
 

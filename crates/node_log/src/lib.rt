@@ -2,18 +2,22 @@
 //!
 //! A [`LogPort`] is a node's port over another one. It remembers the client, the nonce and the user of each client's
 //! line. It writes the line of an answer after the node offered it. Nothing that it keeps or writes has room for a
-//! code, a password or a secret (`codes_are_not_told`). Once a minute it asks the port below, a [`Gatekeeper`], which
-//! datagrams it passed over, and writes their numbers. If a write fails, the log ends and the node continues.
+//! code, a password or a secret (`codes_are_not_told`). A member is heard by datagrams that the node reads. Once a
+//! minute the port asks the one below, a [`Gatekeeper`], which datagrams it passed over. Then it writes their numbers,
+//! and from which members datagrams came that the node can't read. If a write fails, the log ends and the node
+//! continues.
 #![tactic(auto)]
 
 mod asked;
 mod bad_lines;
+mod differing;
 mod gatekeeper;
 mod laws;
 mod log;
 mod members;
 mod minute;
 mod port;
+mod read;
 #[cfg(test)]
 mod tests;
 mod text;
@@ -22,8 +26,8 @@ pub use asked::{Asked, AskedLines, MAX_ASKED};
 pub use bad_lines::BadLines;
 pub use gatekeeper::{Gatekeeper, Older, PLACES};
 pub use laws::{
-    bad_lines_are_worked, codes_are_not_told, lines_are_worked, logs_can_be_broken,
-    minutes_are_worked, records_are_worked, texts_are_worked,
+    bad_lines_are_worked, codes_are_not_told, differing_are_worked, lines_are_worked,
+    logs_can_be_broken, minutes_are_worked, records_are_worked, texts_are_worked,
 };
 pub use log::{Log, MAX_OTHERS};
 pub use members::Member;

@@ -1,17 +1,19 @@
 //! A log over a writer.
 
-ghost use Rattle.std.specs.Prelude.{◌≡◌, ◌∷◌, ◌++◌, [], false, OnOk};
+ghost use Rattle.std.specs.Prelude.{◌≡◌, ◌++◌, [], false, map, slice_set, true, OnOk};
 ghost use Rattle.std.specs.Io.KnownBytes.{Appends};
 ghost use Rattle.datagram_port.specs.Port.{Offered, Quiet, Received};
-ghost use Rattle.datagram_port.specs.declared.port.Sender.TheVariants.{Client, Peer};
+ghost use Rattle.datagram_port.specs.declared.port.Sender.TheVariants.{Client};
 ghost use Rattle.node_log.specs.BadLines.{bad_lines_after, more_text, new_second};
-ghost use Rattle.node_log.specs.Members.{silent_texts};
-ghost use Rattle.node_log.specs.Log.{Tells, asked_after, members_after, told_of};
+ghost use Rattle.node_log.specs.Differing.{either, nobody};
+ghost use Rattle.node_log.specs.Members.{after_datagram, after_quiet, heard_texts, silent_texts};
+ghost use Rattle.node_log.specs.Log.{Tells, asked_after, offer_text};
 ghost use Rattle.node_log.specs.Minute.{is_over, minute_after, new_minute, passed_over_text};
 ghost use Rattle.node_log.specs.Text.{end_line};
 
 use crate::asked::AskedLines;
 use crate::bad_lines::BadLines;
+use crate::differing::either;
 use crate::gatekeeper::{Older, PLACES};
 use crate::members::{Member, hear, rest, write_heard, write_silent};
 use crate::minute::{Minute, write_passed_over};
@@ -39,6 +41,7 @@ pub struct Log<W: Write + Drop> {
     asked: AskedLines,
     members: ArrayVec<Member, MAX_OTHERS>,
     minute: Minute,
+    differing: [bool; PLACES],
     bad_lines: BadLines,
     is_over: bool,
 }
@@ -50,6 +53,7 @@ impl<W: Write + Drop> Log<W> {
         ensures asked { result.asked ≡ [] }
         ensures members { result.members.items ≡ members.items }
         ensures minute { result.minute ≡ new_minute }
+        ensures differing { result.differing ≡ nobody }
         ensures bad_lines { result.bad_lines ≡ new_second }
         ensures goes { result.is_over ≡ false }
     {
@@ -58,6 +62,7 @@ impl<W: Write + Drop> Log<W> {
             asked: AskedLines::new(),
             members,
             minute: Minute::new(),
+            differing: [false; PLACES],
             bad_lines: BadLines::new(),
             is_over: false,
         }
@@ -84,10 +89,11 @@ impl<W: Write + Drop> Log<W> {
         ensures asked { self.new.asked ≡ asked_after (Offered (Client client) answer.now) self.old.asked }
         ensures members { self.new.members.items ≡ self.old.members.items }
         ensures minute { self.new.minute ≡ self.old.minute }
+        ensures differing { self.new.differing ≡ self.old.differing }
         ensures bad_lines { self.new.bad_lines
             ≡ bad_lines_after (Offered (Client client) answer.now) self.old.bad_lines }
         ensures told { Tells self.old.is_over self.new.is_over (W.contents self.old.writer) (W.contents self.new.writer)
-            (told_of (Offered (Client client) answer.now) self.old.asked self.old.members.items self.old.bad_lines) }
+            (offer_text (Client client) answer.now self.old.asked self.old.bad_lines) }
     {
         let user = self.asked.take(client, answer);
         let is_told = self.bad_lines.is_told(client, answer);
@@ -107,12 +113,12 @@ impl<W: Write + Drop> Log<W> {
     /// Notes that the member `number` was heard. Writes a `heard` line if it was not heard already.
     pub fn heard(&mut self, number: u8)
         ensures asked { self.new.asked ≡ self.old.asked }
-        ensures members { self.new.members.items
-            ≡ members_after (Received (Peer number) (0 ∷ [])) self.old.members.items }
+        ensures members { self.new.members.items ≡ map (after_datagram number) self.old.members.items }
         ensures minute { self.new.minute ≡ self.old.minute }
+        ensures differing { self.new.differing ≡ self.old.differing }
         ensures bad_lines { self.new.bad_lines ≡ self.old.bad_lines }
         ensures told { Tells self.old.is_over self.new.is_over (W.contents self.old.writer) (W.contents self.new.writer)
-            (told_of (Received (Peer number) (0 ∷ [])) self.old.asked self.old.members.items self.old.bad_lines) }
+            (heard_texts number self.old.members.items) }
     {
         if !self.is_over
             && write_heard(&mut self.writer, number, self.members.as_slice()).is_err()
@@ -122,15 +128,26 @@ impl<W: Write + Drop> Log<W> {
         hear(self.members.as_mut_slice(), number);
     }
 
+    /// Notes that the member `number` differs: a datagram came from its address that the node can't read.
+    pub fn differs(&mut self, number: u8)
+        ensures { self.new ≡ record self.old { differing = slice_set self.old.differing number true } }
+    {
+        let place = usize::from(number);
+        if place < PLACES {
+            self.differing[place] = true;
+        }
+    }
+
     /// Notes a quiet turn. Writes a `silent` line for each member that becomes silent by it, and a line for the answers
     /// `NO - BADLINE` that had none in a second that it ends.
     pub fn quiet(&mut self)
         ensures asked { self.new.asked ≡ self.old.asked }
-        ensures members { self.new.members.items ≡ members_after Quiet self.old.members.items }
+        ensures members { self.new.members.items ≡ map after_quiet self.old.members.items }
         ensures minute { self.new.minute ≡ minute_after Quiet self.old.minute }
+        ensures differing { self.new.differing ≡ self.old.differing }
         ensures bad_lines { self.new.bad_lines ≡ bad_lines_after Quiet self.old.bad_lines }
         ensures told { Tells self.old.is_over self.new.is_over (W.contents self.old.writer) (W.contents self.new.writer)
-            (told_of Quiet self.old.asked self.old.members.items self.old.bad_lines) }
+            (silent_texts self.old.members.items ++ more_text self.old.bad_lines) }
     {
         if !self.is_over
             && write_quiet(&mut self.writer, self.members.as_slice(), &self.bad_lines).is_err()
@@ -151,7 +168,8 @@ impl<W: Write + Drop> Log<W> {
     }
 
     /// Writes the line of the datagrams that were not opened, that of one of an older boot, and those of the members
-    /// that differ, if there are any. Begins another minute.
+    /// that differ, if there are any. Those in `differing` differ, and those that were noted. Begins another minute, in
+    /// which nobody differs yet.
     pub fn passed_over(
         &mut self,
         unopened: Unopened,
@@ -161,14 +179,15 @@ impl<W: Write + Drop> Log<W> {
         ensures asked { self.new.asked ≡ self.old.asked }
         ensures members { self.new.members.items ≡ self.old.members.items }
         ensures minute { self.new.minute ≡ new_minute }
+        ensures differing { self.new.differing ≡ nobody }
         ensures bad_lines { self.new.bad_lines ≡ self.old.bad_lines }
         ensures told { Tells self.old.is_over self.new.is_over (W.contents self.old.writer) (W.contents self.new.writer)
-            (passed_over_text unopened older differing) }
+            (passed_over_text unopened older (either self.old.differing differing)) }
     {
+        let both = either(self.differing, &differing);
         self.minute = Minute::new();
-        if !self.is_over
-            && write_passed_over(&mut self.writer, &unopened, older, &differing).is_err()
-        {
+        self.differing = [false; PLACES];
+        if !self.is_over && write_passed_over(&mut self.writer, &unopened, older, &both).is_err() {
             self.is_over = true;
         }
     }
@@ -178,6 +197,7 @@ impl<W: Write + Drop> Log<W> {
         ensures asked { self.new.asked ≡ self.old.asked }
         ensures members { self.new.members.items ≡ self.old.members.items }
         ensures minute { self.new.minute ≡ self.old.minute }
+        ensures differing { self.new.differing ≡ self.old.differing }
         ensures bad_lines { self.new.bad_lines ≡ self.old.bad_lines }
         ensures told { Tells self.old.is_over self.new.is_over (W.contents self.old.writer) (W.contents self.new.writer)
             (end_line received replied) }
@@ -195,6 +215,7 @@ impl<W: Write + Drop> Log<W> {
         ensures asked { self.new.asked ≡ self.old.asked }
         ensures members { self.new.members.items ≡ self.old.members.items }
         ensures minute { self.new.minute ≡ self.old.minute }
+        ensures differing { self.new.differing ≡ self.old.differing }
         ensures bad_lines { self.new.bad_lines ≡ self.old.bad_lines }
         ensures told { Tells self.old.is_over self.new.is_over (W.contents self.old.writer) (W.contents self.new.writer)
             [] }

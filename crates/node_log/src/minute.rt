@@ -123,7 +123,8 @@ fn write_if_differs<W: Write>(
     differing: &[bool; PLACES],
     number: u8,
 ) -> io::Result<()>
-    ensures { OnOk result (Appends (W.contents writer.old) (W.contents writer.new) (differs_text differing.now number)) }
+    ensures { OnOk result (Appends (W.contents writer.old) (W.contents writer.new)
+        (differs_text differing.now number)) }
 {
     if differing.get(usize::from(number)).copied().unwrap_or(false) {
         return write_member(writer, b"differs", number);

@@ -2,44 +2,58 @@
 
 ghost use Rattle.std.specs.Prelude.{◌≡◌, [], ◌≢◌, ◌∷◌, ◌++◌, Some, IfSome};
 ghost use Rattle.datagram_port.specs.declared.port.Received.TheVariants.{Quiet as QuietReceive};
-ghost use Rattle.datagram_port.specs.Port.{Grows, IsWithin, Offered, entries_of_poll, event_of_receive};
+ghost use Rattle.datagram_port.specs.Port.{Grows, IsWithin, Offered, Received as ReceivedEvent, entries_of_poll, event_of_receive};
+ghost use Rattle.datagram_port.specs.declared.port.Sender.TheVariants.{Peer};
 ghost use Rattle.node_log.specs.BadLines.{bad_lines_after, new_second};
-ghost use Rattle.node_log.specs.Log.{Remembers, Tells, asked_after, members_after, told_of};
+ghost use Rattle.node_log.specs.Differing.{either, nobody};
+ghost use Rattle.node_log.specs.Log.{Remembers, Tells, asked_after, differing_after, differing_at_receive, members_after, offer_text, told_of, with_datagram};
 ghost use Rattle.node_log.specs.Minute.{minute_after, minute_at_receive, minute_text, new_minute};
 ghost use Rattle.node_log.specs.Text.{end_line};
 
 use crate::gatekeeper::Gatekeeper;
 use crate::log::{Log, MAX_OTHERS};
 use crate::members::Member;
+use crate::read::is_read;
 use arrayvec::ArrayVec;
 use datagram_port::{Port, Received, Sender};
 use std::io::Write;
+use vote_wire::ClusterKey;
 
 /// A node's port over another one, with a log of the answers to clients, and of the members that become heard or
 /// silent.
 ///
-/// It writes a line after the node offered the answer, and flushes the log before the next wait. Once a minute it
-/// writes how many datagrams the port below didn't open, the last one of an older boot, and the members whose datagrams
-/// it can't read, if there are any.
+/// A member is heard by a datagram that it made under the node's key. The port writes a line after the node offered the
+/// answer, and flushes the log before the next wait. Once a minute it writes how many datagrams the port below didn't
+/// open, the last one of an older boot, and the members from whose addresses other datagrams came, if there are any.
 #[derive(Drop)]
-pub struct LogPort<P: Gatekeeper + Drop, W: Write + Drop> {
+pub struct LogPort<'k, P: Gatekeeper + Drop, W: Write + Drop> {
     port: P,
+    key: &'k ClusterKey,
     log: Log<W>,
     ghost remembers: { Remembers (P.events port) log.asked },
 }
 
-impl<P: Gatekeeper + Drop, W: Write + Drop> LogPort<P, W> {
-    /// Returns a port over `port`, which has received and offered nothing yet, with the node's other members.
-    pub fn new(port: P, writer: W, members: ArrayVec<Member, MAX_OTHERS>) -> Self
+impl<'k, P: Gatekeeper + Drop, W: Write + Drop> LogPort<'k, P, W> {
+    /// Returns a port over `port`, which has received and offered nothing yet, with the node's key and its other
+    /// members.
+    pub fn new(
+        port: P,
+        writer: W,
+        key: &'k ClusterKey,
+        members: ArrayVec<Member, MAX_OTHERS>,
+    ) -> Self
         requires { IfSome (P.events port) (λ entries. entries ≡ []) }
         ensures port { result.port ≡ port }
+        ensures key { result.key ≡ key.entry }
         ensures writer { result.log.writer ≡ writer }
         ensures members { result.log.members.items ≡ members.items }
         ensures minute { result.log.minute ≡ new_minute }
+        ensures differing { result.log.differing ≡ nobody }
         ensures bad_lines { result.log.bad_lines ≡ new_second }
     {
         LogPort {
             port,
+            key,
             log: Log::new(writer, members),
         }
     }
@@ -54,18 +68,20 @@ impl<P: Gatekeeper + Drop, W: Write + Drop> LogPort<P, W> {
         self.log.end(received, replied);
     }
 
-    /// Writes the lines of the datagrams that the port below passed over in a minute, if the minute is over.
+    /// Writes the lines of the datagrams that were passed over in a minute, if the minute is over.
     fn tell_passed_over(&mut self)
         ensures event { P.events self.new.port ≡ P.events self.old.port }
         ensures stays { P.setup self.new.port ≡ P.setup self.old.port }
         ensures asked { self.new.log.asked ≡ self.old.log.asked }
         ensures members { self.new.log.members.items ≡ self.old.log.members.items }
+        ensures key { self.new.key ≡ self.old.key }
         ensures minute { self.new.log.minute ≡ minute_at_receive self.old.log.minute }
+        ensures differing { self.new.log.differing ≡ differing_at_receive self.old.log.minute self.old.log.differing }
         ensures bad_lines { self.new.log.bad_lines ≡ self.old.log.bad_lines }
         ensures told { Tells self.old.log.is_over self.new.log.is_over (W.contents self.old.log.writer)
             (W.contents self.new.log.writer)
             (minute_text self.old.log.minute (P.unopened self.old.port) (P.older self.old.port)
-            (P.differing self.old.port)) }
+            (either self.old.log.differing (P.differing self.old.port))) }
     {
         if self.log.is_minute_over() {
             let unopened = self.port.take_unopened();
@@ -83,22 +99,43 @@ impl<P: Gatekeeper + Drop, W: Write + Drop> LogPort<P, W> {
     }
 }
 
+/// Notes a datagram from the address of the member `number` in the log.
+fn note_datagram<W: Write + Drop>(log: &mut Log<W>, key: &ClusterKey, number: u8, bytes: &[u8])
+    ensures asked { log.new.asked ≡ log.old.asked }
+    ensures members { log.new.members.items
+        ≡ members_after key.now (ReceivedEvent (Peer number) bytes.now) log.old.members.items }
+    ensures minute { log.new.minute ≡ log.old.minute }
+    ensures differing { log.new.differing ≡ with_datagram key.now number bytes.now log.old.differing }
+    ensures bad_lines { log.new.bad_lines ≡ log.old.bad_lines }
+    ensures told { Tells log.old.is_over log.new.is_over (W.contents log.old.writer) (W.contents log.new.writer)
+        (told_of key.now (ReceivedEvent (Peer number) bytes.now) log.old.asked log.old.members.items
+        log.old.bad_lines) }
+{
+    if is_read(key, number, bytes) {
+        log.heard(number);
+    } else if !bytes.is_empty() {
+        log.differs(number);
+    }
+}
+
 /// Notes the result of a receive in the log.
-fn note<W: Write + Drop>(log: &mut Log<W>, received: Received, buffer: &[u8; 512])
+fn note<W: Write + Drop>(log: &mut Log<W>, key: &ClusterKey, received: Received, buffer: &[u8; 512])
     requires { IsWithin received }
     ensures asked { log.new.asked ≡ asked_after (event_of_receive received buffer.now) log.old.asked }
     ensures members { log.new.members.items
-        ≡ members_after (event_of_receive received buffer.now) log.old.members.items }
+        ≡ members_after key.now (event_of_receive received buffer.now) log.old.members.items }
     ensures minute { log.new.minute ≡ minute_after (event_of_receive received buffer.now) log.old.minute }
+    ensures differing { log.new.differing
+        ≡ differing_after key.now (event_of_receive received buffer.now) log.old.differing }
     ensures bad_lines { log.new.bad_lines ≡ bad_lines_after (event_of_receive received buffer.now) log.old.bad_lines }
     ensures told { Tells log.old.is_over log.new.is_over (W.contents log.old.writer) (W.contents log.new.writer)
-        (told_of (event_of_receive received buffer.now) log.old.asked log.old.members.items log.old.bad_lines) }
+        (told_of key.now (event_of_receive received buffer.now) log.old.asked log.old.members.items
+        log.old.bad_lines) }
 {
     match received {
         Received::Datagram { sender, len } => match sender {
             Sender::Client(client) => log.received(client, &buffer[..len]),
-            Sender::Peer(number) if 0 < len => log.heard(number),
-            Sender::Peer(_) => {}
+            Sender::Peer(number) => note_datagram(log, key, number, &buffer[..len]),
         },
         Received::Quiet => log.quiet(),
         Received::Fault => {}
@@ -110,9 +147,10 @@ fn note_offer<W: Write + Drop>(log: &mut Log<W>, to: Sender, bytes: &[u8])
     ensures asked { log.new.asked ≡ asked_after (Offered to bytes.now) log.old.asked }
     ensures members { log.new.members.items ≡ log.old.members.items }
     ensures minute { log.new.minute ≡ log.old.minute }
+    ensures differing { log.new.differing ≡ log.old.differing }
     ensures bad_lines { log.new.bad_lines ≡ bad_lines_after (Offered to bytes.now) log.old.bad_lines }
     ensures told { Tells log.old.is_over log.new.is_over (W.contents log.old.writer) (W.contents log.new.writer)
-        (told_of (Offered to bytes.now) log.old.asked log.old.members.items log.old.bad_lines) }
+        (offer_text to bytes.now log.old.asked log.old.bad_lines) }
 {
     match to {
         Sender::Client(client) => log.answered(client, bytes),
@@ -120,7 +158,7 @@ fn note_offer<W: Write + Drop>(log: &mut Log<W>, to: Sender, bytes: &[u8])
     }
 }
 
-impl<P: Gatekeeper + Drop, W: Write + Drop> Port for LogPort<P, W> {
+impl<P: Gatekeeper + Drop, W: Write + Drop> Port for LogPort<'_, P, W> {
     ghost events = { λ logged. P.events logged.port };
 
     ghost setup = { λ logged. P.setup logged.port };
@@ -134,16 +172,19 @@ impl<P: Gatekeeper + Drop, W: Write + Drop> Port for LogPort<P, W> {
         ensures told { Tells self.old.log.is_over self.new.log.is_over (W.contents self.old.log.writer)
             (W.contents self.new.log.writer)
             (minute_text self.old.log.minute (P.unopened self.old.port) (P.older self.old.port)
-            (P.differing self.old.port)
-            ++ told_of (event_of_receive result buffer.new) self.old.log.asked self.old.log.members.items
-            self.old.log.bad_lines) }
+            (either self.old.log.differing (P.differing self.old.port))
+            ++ told_of self.old.key.now (event_of_receive result buffer.new) self.old.log.asked
+            self.old.log.members.items self.old.log.bad_lines) }
         ensures minute { self.new.log.minute
             ≡ minute_after (event_of_receive result buffer.new) (minute_at_receive self.old.log.minute) }
+        ensures differing { self.new.log.differing
+            ≡ differing_after self.old.key.now (event_of_receive result buffer.new)
+            (differing_at_receive self.old.log.minute self.old.log.differing) }
     {
         self.tell_passed_over();
         self.log.flush();
         let received = self.port.receive(buffer);
-        note(&mut self.log, received, buffer);
+        note(&mut self.log, self.key, received, buffer);
         received
     }
 
@@ -155,12 +196,12 @@ impl<P: Gatekeeper + Drop, W: Write + Drop> Port for LogPort<P, W> {
         ensures stays { P.setup self.new.port ≡ P.setup self.old.port }
         ensures told { IfSome result (λ received. Tells self.old.log.is_over self.new.log.is_over
             (W.contents self.old.log.writer) (W.contents self.new.log.writer)
-            (told_of (event_of_receive received buffer.new) self.old.log.asked self.old.log.members.items
-            self.old.log.bad_lines)) }
+            (told_of self.old.key.now (event_of_receive received buffer.new) self.old.log.asked
+            self.old.log.members.items self.old.log.bad_lines)) }
     {
         let received = self.port.poll(buffer);
         if let Some(received) = received {
-            note(&mut self.log, received, buffer);
+            note(&mut self.log, self.key, received, buffer);
         }
         received
     }
@@ -171,7 +212,8 @@ impl<P: Gatekeeper + Drop, W: Write + Drop> Port for LogPort<P, W> {
         ensures stays { P.setup self.new.port ≡ P.setup self.old.port }
         ensures told { Tells self.old.log.is_over self.new.log.is_over (W.contents self.old.log.writer)
             (W.contents self.new.log.writer)
-            (told_of (Offered to bytes.now) self.old.log.asked self.old.log.members.items self.old.log.bad_lines) }
+            (told_of self.old.key.now (Offered to bytes.now) self.old.log.asked self.old.log.members.items
+            self.old.log.bad_lines) }
     {
         let is_taken = self.port.send(to, bytes);
         note_offer(&mut self.log, to, bytes);

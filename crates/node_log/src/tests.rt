@@ -1,11 +1,14 @@
 //! Logs over ports in memory.
 
-use crate::{Log, LogPort, Older};
+use crate::{Log, LogPort, Member, Older};
 use arrayvec::ArrayVec;
 use datagram_port::{Coming, ListClock, ListPort, Port, Sender};
+use otp_core::Next;
 use sealed_port::{Failures, Gate, SealedPort, Unopened};
 use std::alloc::Global;
 use std::test::Fail;
+use vote_core::Message;
+use vote_wire::{ClusterKey, write_message};
 
 /// The line of an answer to a plain line outside the grammar.
 const BAD_LINE: &[u8] = b"refused from=0.0.0.0:7 NO - BADLINE\n";
@@ -13,7 +16,8 @@ const BAD_LINE: &[u8] = b"refused from=0.0.0.0:7 NO - BADLINE\n";
 /// Offers `answers` answers to lines outside the grammar, and then has `quiets` quiet turns. Returns the log.
 fn log_of_bad_lines(alloc: Global, answers: u8, quiets: u8) -> Result<Vec<u8>, Fail> {
     let mut text = Vec::new(alloc);
-    let mut port = LogPort::new(ListPort::new(alloc, &[]), &mut text, ArrayVec::new());
+    let key = ClusterKey::bare();
+    let mut port = LogPort::new(ListPort::new(alloc, &[]), &mut text, &key, ArrayVec::new());
     for _ in 0..answers {
         let _taken = port.send(Sender::Client(7), b"NO - BADLINE");
     }
@@ -43,13 +47,14 @@ fn log_of_gate<'a>(
     receives: u16,
 ) -> Result<Vec<u8>, Fail> {
     let mut text = Vec::new(alloc);
+    let key = ClusterKey::bare();
     let gate = Gate::new(1, Vec::new(alloc), Vec::new(alloc), Failures::new(None));
     let port = SealedPort::new(
         ListPort::new(alloc, comings),
         ListClock::new(alloc, &[]),
         gate,
     );
-    let mut port = LogPort::new(port, &mut text, ArrayVec::new());
+    let mut port = LogPort::new(port, &mut text, &key, ArrayVec::new());
     for _ in 0..receives {
         let _quiet = port.receive(&mut [0; 512]);
     }
@@ -93,5 +98,51 @@ fn tells_who_differs(rt: HostRuntime) -> Result<(), Fail> {
     assert!(rt; text.as_slice() == b"differs member=2\ndiffers member=4\n".as_slice());
     let text = log_of_differing(rt.alloc(), Some(Older { member: 3, boot: 7 }))?;
     assert!(rt; text.starts_with(b"older member=3 boot=7\ndiffers member=2\n"));
+    Ok(())
+}
+
+/// Returns the log of a minute in which member 2 sends a floor under the node's key, and member 3 one under another.
+fn log_of_members(alloc: Global) -> Result<Vec<u8>, Fail> {
+    let mut text = Vec::new(alloc);
+    let (Some(key), Some(other), Some(next)) = (
+        ClusterKey::new(&[1; 32]),
+        ClusterKey::new(&[2; 32]),
+        Next::new(5),
+    ) else {
+        return Ok(text);
+    };
+    let floor = Message::Floor { token: 0, next };
+    let (right, wrong) = (
+        write_message(&key, 2, 1, &floor),
+        write_message(&other, 3, 1, &floor),
+    );
+    let comings = [
+        Coming::Datagram {
+            sender: Sender::Peer(2),
+            bytes: &right,
+        },
+        Coming::Datagram {
+            sender: Sender::Peer(3),
+            bytes: &wrong,
+        },
+    ];
+    let mut members = ArrayVec::new();
+    members.push(Member::new(2));
+    members.push(Member::new(3));
+    let mut port = LogPort::new(ListPort::new(alloc, &comings), &mut text, &key, members);
+    for _ in 0..303 {
+        let _received = port.receive(&mut [0; 512]);
+    }
+    drop(port);
+    Ok(text)
+}
+
+/// A member under another key isn't heard, and differs.
+#[test]
+fn tells_who_is_heard(rt: HostRuntime) -> Result<(), Fail> {
+    let text = log_of_members(rt.alloc())?;
+    assert!(rt; text.starts_with(b"heard member=2\nsilent member=2\nsilent member=3\n"));
+    assert!(rt; text.ends_with(b"\ndiffers member=3\n"));
+    assert!(rt; text.len() == 64);
     Ok(())
 }

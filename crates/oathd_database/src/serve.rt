@@ -138,12 +138,14 @@ fn write_first_lines<W: Write>(writer: &mut W, log: &ServeLog) -> io::Result<()>
     }
 }
 
-/// Serves a node over a port, as [`serve_node`] does, with a log. A failed write ends the log, but not the node.
+/// Serves a node over a port, as [`serve_node`] does, with a log. A member is heard under `key`. A failed write ends
+/// the log, but not the node.
 fn serve_logged<S: FloorStore, P: Gatekeeper + Drop, N: TimeSource, W: Write>(
     node: &mut Node<'_, S>,
     port: P,
     outside: &N,
     turns: u64,
+    key: &ClusterKey,
     log: ServeLog,
     writer: &mut W,
 ) -> Result<Served, Fault>
@@ -155,13 +157,15 @@ fn serve_logged<S: FloorStore, P: Gatekeeper + Drop, N: TimeSource, W: Write>(
 {
     let _written = write_first_lines(writer, &log);
     let mut clock = SystemClock::new(outside);
-    let mut port = LogPort::new(port, writer, log.members);
+    let mut port = LogPort::new(port, writer, key, log.members);
     let served = serve_node(node, &mut port, &mut clock, turns)?;
     port.end(served.received, served.replied);
     Ok(served)
 }
 
 /// Serves a node over a port, as [`serve_node`] does, with a log if there is one. Without a log it writes nothing.
+///
+/// `key` is the key of the node: the log tells who is heard under it.
 ///
 /// # Errors
 /// Returns the errors of [`serve_node`].
@@ -170,6 +174,7 @@ pub fn serve_port<S: FloorStore, P: Gatekeeper + Drop, N: TimeSource, W: Write>(
     port: P,
     outside: &N,
     turns: u64,
+    key: &ClusterKey,
     log: Option<ServeLog>,
     writer: &mut W,
 ) -> Result<Served, Fault>
@@ -181,7 +186,7 @@ pub fn serve_port<S: FloorStore, P: Gatekeeper + Drop, N: TimeSource, W: Write>(
     ensures unlogged { log ≡ None → writer.new ≡ writer.old }
 {
     match log {
-        Some(log) => serve_logged(node, port, outside, turns, log, writer),
+        Some(log) => serve_logged(node, port, outside, turns, key, log, writer),
         None => {
             let mut port = port;
             let mut clock = SystemClock::new(outside);
@@ -198,6 +203,7 @@ fn serve_front<S: FloorStore, N: TimeSource, W: Write>(
     outside: &N,
     front: Front,
     turns: u64,
+    key: &ClusterKey,
     log: Option<ServeLog>,
     writer: &mut W,
 ) -> Result<Served, Fault>
@@ -208,14 +214,14 @@ fn serve_front<S: FloorStore, N: TimeSource, W: Write>(
     ensures unlogged { log ≡ None → writer.new ≡ writer.old }
 {
     match front {
-        Front::Anybody => serve_port(node, port, outside, turns, log, writer),
+        Front::Anybody => serve_port(node, port, outside, turns, key, log, writer),
         Front::ThisMachine => {
             let port = port.taking_loopback_alone();
-            serve_port(node, port, outside, turns, log, writer)
+            serve_port(node, port, outside, turns, key, log, writer)
         }
         Front::Gate(gate) => {
             let port = SealedPort::new(port.under_gate(), SystemClock::new(outside), gate);
-            serve_port(node, port, outside, turns, log, writer)
+            serve_port(node, port, outside, turns, key, log, writer)
         }
     }
 }
@@ -306,5 +312,5 @@ pub fn serve_store<R: Read + Drop, S: Alter + Drop, D: Database<S>, N: Net + Tim
     let port = UdpPort::new(socket_at(outside, address)?, members, outside);
     let front = front_of(alloc, place.me(), lines, outside)?;
     let log = log_of(is_logged, start, None, place);
-    serve_front(&mut node, port, outside, front, turns, log, writer)
+    serve_front(&mut node, port, outside, front, turns, &key, log, writer)
 }

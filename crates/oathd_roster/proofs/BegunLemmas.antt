@@ -5,17 +5,15 @@ use Rattle.std.specs.Io.KnownBytes.{Appends}
 use Rattle.sqlite.specs.Effect.{Database}
 use Rattle.sqlite.specs.Store.{Ghosts}
 use Rattle.sqlite.specs.Held as sql
-use Rattle.sqlite.specs.State.{HasCleanDisk, Survives}
+use Rattle.sqlite.specs.State.{HasCleanDisk}
 use Rattle.otp_core.specs.Limits.{Limits}
 use Rattle.token_file.specs.Credential.{Credential}
 use Rattle.floor_sql.specs.Held.{SqlHeld, sql_held}
 use Rattle.floor_sql.specs.Shown.{IsLeft}
 use Rattle.floor_sql.specs.Steps.{Transacts}
-use Rattle.floor_sql.specs.Stored.{Commits, MayCommit}
 use Rattle.floor_sql.specs.declared.read.Refusal.{Refusal}
 use Rattle.floor_store.specs.declared.fault.StoreFault.{StoreFault}
 use Rattle.floor_store.specs.declared.fault.StoreFault.TheVariants.{Unusable}
-use Rattle.named_store.specs.Entries.{entries_of}
 use Rattle.named_store.specs.Opened.{HasSeated}
 use Rattle.roster_sql.specs.Opened.{OpensNamed}
 use Rattle.roster_sql.specs.Roster.{BondRecord}
@@ -24,7 +22,7 @@ use Rattle.seated_store.specs.Seated.{SeatedRecord, seated_held}
 use Rattle.seated_store.specs.Seats.{seated_content}
 use Rattle.vote_core.specs.NodeSet.{PlaceRecord}
 use Rattle.oathd_database.specs.Fault.{IsOutputFault}
-use Rattle.oathd_database.specs.Users.{IsImported, IsUnread}
+use Rattle.oathd_database.specs.Users.{IsImported}
 use Rattle.oathd_database.specs.declared.fault.Fault.{Fault}
 use Rattle.oathd_database.specs.declared.fault.Fault.TheVariants.{Memory, CannotWrite, NoClock, Users, Store, Socket}
 use Rattle.oathd_roster.specs.Begun.{HasBegun, IsBegun, IsBegunAt, IsNotBegun, IsNotCreated, begun_text}

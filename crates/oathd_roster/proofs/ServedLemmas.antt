@@ -1,11 +1,13 @@
 -- A node is served over a port by names.
 use Rattle.std.proofs.Common.{inl, inr, ◌≡◌, ◌∙◌, ℕ, ◌+◌, Bool, true, false, List, [], ◌∷◌, map, Option, Some, None, IfSome, refl, sym, ap, subst}
-use Rattle.std.specs.Prelude.{◌⊎◌, Result, Ok, Err, IfErr, IfOk, IsSome}
+use Rattle.std.specs.Prelude.{◌⊎◌, Result, Ok, Err, IsSome}
 use Rattle.std.proofs.lemmas.Option.{IfSome_then, same_Some}
 use Rattle.std.specs.declared.net.socket_addr.SocketAddrV4.{SocketAddrV4}
 use Rattle.sqlite.specs.Store.{Ghosts}
 use Rattle.sqlite.specs.Held as sql
 use Rattle.sqlite.specs.State.{HasCleanDisk}
+use Rattle.bundle_port.specs.Bundler.{BundlerRecord, new_bundler}
+use Rattle.bundle_port.specs.Runs as joining
 use Rattle.datagram_port.specs.Port.{PortEvent}
 use Rattle.datagram_port.specs.Setup.{Keyed, Setup, behind_gate}
 use Rattle.floor_sql.specs.Held.{SqlHeld, sql_held}
@@ -32,7 +34,7 @@ use Rattle.token_file.specs.Credential.{Credential}
 use Rattle.token_names.specs.Names.{names_of}
 use Rattle.udp_port.specs.Calls.{SocketCalls, events_of_calls}
 use Rattle.udp_port.specs.Setup.{setup_of}
-use Rattle.oathd_database.specs.Commands.{HasImport, IsNotServed}
+use Rattle.oathd_database.specs.Commands.{IsNotServed}
 use Rattle.oathd_database.specs.Fault.{IsOpenFault, serve_end}
 use Rattle.oathd_database.specs.Front.{IsFrontFault, IsFrontOf}
 use Rattle.oathd_database.specs.Gate.{client_from}
@@ -57,17 +59,18 @@ use Rattle.oathd_roster.proofs.TellingLemmas.{known_above, telling_stays}
 
 -- ---- a run over a port by names
 
--- The translator `t` and the packer `p` are at their start, when nothing was received and offered, and `u` and `q` are
--- those at the end.
+-- The translator `t` and the packer `p` are at their start, when nothing was received and offered, and `u`, `q` and the
+-- bundler `b` are those at the end.
 pub served_under : {S : Type 0} (held : S → Held) (old new : Hosted S) (turns : ℕ) (end : Result Served ServeFault) (t u start : TranslatorRecord) (p q packer : PackerRecord)
-    (none calls : List PortEvent) (told : List Call) (was now : Option Setup) (floors later : List ℕ) (below : Option (List PortEvent))
+    (b : BundlerRecord) (none calls : List PortEvent) (told : List Call) (joined : List joining.Call) (was now : Option Setup) (floors later : List ℕ) (below : Option (List PortEvent))
     → t ≡ start → start ≡ at_start start → none ≡ [] → p ≡ packer → packer ≡ telling.at_start packer floors → IsSome was
     → Serves held old new (Some (handed_events (at_start t) none)) (Some (handed_events (at_start u) calls)) None None turns end
     → named_setup u (telling_setup q later now) ≡ named_setup t (telling_setup p floors was)
     → IsAfter (Some (telling.handed_events (telling.at_start q later) told)) u calls
-    → telling.IsAfter below q (telling.at_start q later) told
+    → telling.IsAfter (Some (joining.handed_events new_bundler joined)) q (telling.at_start q later) told
+    → joining.IsAfter below b joined
     → ServesNamed held old new start packer below turns end × (now ≡ was)
-served_under held old new turns end t u start p q packer none calls told was now floors later below is begun fresh is_packer packed known serves same after under =
+served_under held old new turns end t u start p q packer b none calls told joined was now floors later below is begun fresh is_packer packed known serves same after under over =
     let parts = parts_stay t u (telling_setup p floors was) (telling_setup q later now) (known_above p floors was known) same in
     let more = telling_stays p q floors later was now known parts.1 in
     let begins : at_start u ≡ start = parts.0 ∙ ap at_start is ∙ sym begun in
@@ -85,7 +88,12 @@ served_under held old new turns end t u start p q packer none calls told was now
             ap (λ (s : TranslatorRecord). below_events s calls) (sym begins)
             ∙ sym (after.below_is (telling.handed_events (telling.at_start q later) told) refl)
             ∙ ap (λ (one : PackerRecord). telling.handed_events one told) packs;
-        below_is = λ events e. under.below_is events e ∙ ap (λ (one : PackerRecord). telling.below_events one told) packs;
+        joined = joined;
+        is_joined = over.is_made;
+        told_is =
+            ap (λ (one : PackerRecord). telling.below_events one told) (sym packs)
+            ∙ sym (under.below_is (joining.handed_events new_bundler joined) refl);
+        below_is = over.below_is;
       },
       more.1,
     )
@@ -197,8 +205,8 @@ err_same : (fault other : Fault) → failed fault ≡ failed other → fault ≡
 err_same fault other e = cc
 
 -- who was served wasn't short of memory
-pub not_early : {A : Type 0} (served : Served) → (Ok served ≡ failed Memory) ⊎ A → A
-not_early served (inl memory) = absurd cc
+pub not_early : {A B : Type 0} (served : Served) → ((Ok served ≡ failed Memory) × B) ⊎ A → A
+not_early served (inl memory) = let clash = memory.0 in absurd cc
 not_early served (inr run) = run
 
 -- ---- the command
@@ -247,11 +255,11 @@ module _ {S : Type 0} (g : Ghosts S) (finds : sql.Held S → Type 0) (cluster : 
     ends_before fault fails = IfSome_then a imported (λ text h. inl (fails text h))
 
     -- the allocator refuses the memory before the first turn, or the node was served
-    pub ends_early : {A : Type 0} (fault : Fault) → (failed fault ≡ failed Memory) ⊎ A
+    pub ends_early : {A B : Type 0} (fault : Fault) → ((failed fault ≡ failed Memory) × B) ⊎ A
         → (A → IfSome a (EndsServingNamed g finds cluster moment serving (Command fault)))
         → IfSome a (EndsServingNamed g finds cluster moment serving (Command fault))
     ends_early fault (inl memory) served =
-        let same : fault ≡ Memory = err_same fault Memory memory in
+        let same : fault ≡ Memory = err_same fault Memory memory.0 in
         subst (λ (x : Fault). IfSome a (EndsServingNamed g finds cluster moment serving (Command x))) (sym same)
         (ends_before Memory (λ text h. tt))
     ends_early fault (inr run) served = served run

@@ -15,7 +15,6 @@ use Rattle.oathd_database.specs.Users.{IsImported, IsUnread}
 use Rattle.oathd_database.specs.declared.fault.Fault.{Fault}
 use Rattle.oathd_roster.specs.Fault.{names_fault_of}
 use Rattle.oathd_roster.specs.Users.{IsUnnamed}
-use Rattle.oathd_roster.specs.declared.fault.RosterFault.{RosterFault}
 use Rattle.oathd_roster.specs.declared.fault.RosterFault.TheVariants.{Command}
 
 -- a fault is passed on

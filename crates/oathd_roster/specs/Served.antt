@@ -3,6 +3,8 @@ use Rattle.std.specs.Prelude.{◌≡◌, ◌⊎◌, ℕ, ◌+◌, true, List, []
 use Rattle.sqlite.specs.Store.{Ghosts}
 use Rattle.sqlite.specs.Held as sql
 use Rattle.sqlite.specs.State.{HasCleanDisk}
+use Rattle.bundle_port.specs.Bundler.{new_bundler}
+use Rattle.bundle_port.specs.Runs as joining
 use Rattle.datagram_port.specs.Port.{PortEvent}
 use Rattle.datagram_port.specs.Setup.{Setup}
 use Rattle.floor_port.specs.Packer.{PackerRecord, new_packer}
@@ -52,8 +54,8 @@ packer_of naming =
 
 -- ---- the turns
 
--- A node was served for some turns through a translator over a port that tells floors. Both were new at the start.
--- `below` is the record at the end of the port below that one.
+-- A node was served for some turns through a translator, over a port that tells floors, over one that joins datagrams.
+-- All were new at the start. `below` is the record at the end of the port below the last one.
 pub record ServesNamed {S : Type 0} (held : S → Held) (old new : Hosted S) (start : TranslatorRecord)
     (packer : PackerRecord) (below : Option (List PortEvent)) (turns : ℕ) (end : Result Served ServeFault)
     : Type 0 where
@@ -66,11 +68,16 @@ pub record ServesNamed {S : Type 0} (held : S → Held) (old new : Hosted S) (st
   pub is_made : may_make packer told ≡ true
   -- the translator received what that port handed in, and offered to it what it made of the node's offers
   pub handed_is : below_events start calls ≡ telling.handed_events packer told
-  -- the port below was offered these offers, and floors of the node
-  pub below_is : (events : List PortEvent) → below ≡ Some events → events ≡ telling.below_events packer told
+  -- the calls of the port that joins datagrams
+  pub joined : List joining.Call
+  pub is_joined : joining.may_make new_bundler joined ≡ true
+  -- the port that tells floors received what that port handed in, and offered to it these offers and the node's floors
+  pub told_is : telling.below_events packer told ≡ joining.handed_events new_bundler joined
+  -- the port below was offered these datagrams, alone or joined
+  pub below_is : (events : List PortEvent) → below ≡ Some events → events ≡ joining.below_events new_bundler joined
 
--- A node was served for some turns through a new translator and a new packer over a port with the setup. The port kept
--- a record, and had received and offered nothing. The run ended with `result`.
+-- A node was served for some turns through a new translator, a new packer and a new bundler over a port with the setup.
+-- The port kept a record, and had received and offered nothing. The run ended with `result`.
 pub record IsServedNamed {S : Type 0} (held : S → Held) (old new : Hosted S) (setup : Setup)
     (start : TranslatorRecord) (packer : PackerRecord) (turns : ℕ) (result : Result Served Fault) : Type 0 where
   -- the port's record at the end

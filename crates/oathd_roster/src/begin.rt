@@ -34,7 +34,7 @@ use vote_core::Place;
 /// The number of boots for each second.
 const BOOTS: u64 = 1 << 20;
 
-/// Opens the store of `node` that was created in the tables of `conn`, for the tokens with the given entries and floors.
+/// Opens the store of `node` that was created in the tables of `conn`, for the tokens with these entries and floors.
 ///
 /// The store is bound to `own`. Each of the tokens is seen at the row with its name.
 ///
@@ -131,8 +131,8 @@ fn create_named<R: Read + Drop, S: Alter + Drop, D: Database<S>>(
     }
 }
 
-/// Writes what the new store of a member is, as [`write_made`] does. If the secrets of the cluster's new tokens are new,
-/// it writes as [`write_fresh`] does.
+/// Writes what the new store of a member is, as [`write_made`] does. If the secrets of the cluster's new tokens are
+/// new, it writes as [`write_fresh`] does.
 fn write_begun<S: FloorStore, W: Write>(
     cluster: &NamedCluster,
     place: Place,

@@ -16,6 +16,7 @@ use crate::names::names_in;
 use crate::naming::Naming;
 use crate::opening::open_named_store;
 use crate::users::NamedUsers;
+use bundle_port::BundlePort;
 use cluster_file::book_print;
 use floor_port::{FloorPort, Membership};
 use floor_store::FloorStore;
@@ -39,10 +40,11 @@ use vote_wire::ClusterKey;
 
 /// Serves a node by names over a port, which has received and offered nothing, with a log if there is one.
 ///
-/// Between the node's port by names and `port` stands one that tells the node's floors to the other members.
+/// Between the node's port by names and `port` stand two others: one tells the node's floors to the other members, and
+/// the one below it joins the datagrams to a member into one.
 ///
 /// # Errors
-/// - Returns `Memory` if the allocator refuses the memory for the floors that the port tells.
+/// - Returns `Memory` if the allocator refuses the memory for the floors that the port tells. The node is as it was.
 /// - Returns the errors of [`serve_port`].
 fn serve_named<S: FloorStore, P: Gatekeeper + Drop, N: TimeSource, W: Write>(
     alloc: Global,
@@ -57,17 +59,20 @@ fn serve_named<S: FloorStore, P: Gatekeeper + Drop, N: TimeSource, W: Write>(
     requires turns { turns < 2 ^ 54 }
     requires fresh { IfSome (P.events port) (λ events. events ≡ []) }
     requires known { IsSome (P.setup port) }
-    ensures turns { (result ≡ Err Fault.Memory) ⊎ ((end : Result Served ServeFault) × (last : P)
+    ensures turns { ((result ≡ Err Fault.Memory) × (node.new ≡ node.old))
+        ⊎ ((end : Result Served ServeFault) × (last : P)
         × ServesNamed S.held node.old node.new (translator_of naming.now) (packer_of naming.now) (P.events last)
         turns end × (P.setup last ≡ P.setup port) × (result ≡ serve_end end)) }
     ensures unlogged { log ≡ None → writer.new ≡ writer.old }
 {
     let (key, names, member) = (&naming.key, &naming.names, naming.node);
-    let Ok(port) = FloorPort::new(alloc, port, key, names, member, &naming.floors) else {
+    let joining = BundlePort::new(port);
+    let Ok(telling) = FloorPort::new(alloc, joining, key, names, member, &naming.floors) else {
         return Err(Fault::Memory);
     };
-    let port = NamedPort::new(port, key, names, member.me, member.boot);
-    serve_port(node, port, outside, turns, log, writer)
+    let named = NamedPort::new(telling, key, names, member.me, member.boot);
+    let bare = ClusterKey::bare();
+    serve_port(node, named, outside, turns, &bare, log, writer)
 }
 
 /// Serves a node by names over a socket, for the clients that `front` lets through, with a log if there is one. Without
@@ -89,7 +94,7 @@ fn serve_front<S: FloorStore, N: TimeSource, W: Write>(
     requires turns { turns < 2 ^ 54 }
     requires calls { port.calls.made ≡ [] }
     requires plain { (port.skips_answers ≡ true) × (port.takes_loopback_alone ≡ false) }
-    ensures turns { (result ≡ Err Fault.Memory) ⊎ IsServedNamed S.held node.old node.new
+    ensures turns { ((result ≡ Err Fault.Memory) × (node.new ≡ node.old)) ⊎ IsServedNamed S.held node.old node.new
         (setup_behind port.entry.members.items front) (translator_of naming.now) (packer_of naming.now) turns result }
     ensures unlogged { log ≡ None → writer.new ≡ writer.old }
 {
@@ -157,7 +162,8 @@ fn indexed_names(alloc: Global, named: &NamedUsers) -> Result<Names, Fault>
 ///
 /// The store is opened as [`open_named_store`] does. The node speaks to the other members by the names of its tokens,
 /// under the key of `serving`. In the process, it speaks to its port under the bare key. It tells the other members the
-/// floors of its tokens in bulk, and takes theirs ([`floor_port`]).
+/// floors of its tokens in bulk, and takes theirs ([`floor_port`]). The datagrams to a member between two waits are
+/// joined ([`bundle_port`]).
 /// A log has a line of the store's rows after its first one. All else is as in
 /// [`serve_store`](oathd_database::serve_store).
 ///

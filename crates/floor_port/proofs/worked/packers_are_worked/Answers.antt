@@ -88,10 +88,8 @@ returns-clause-votes c = refl
 pub returns-clause-unchanged : goal.returns-clause-unchanged
 returns-clause-unchanged c = refl
 
-pub returns-clause-heard : goal.returns-clause-heard
-returns-clause-heard c = refl
-
 pub returns-clause-unheard : goal.returns-clause-unheard
+unfolding tag_of datagram_bytes datagram_at head_at sha256_steps.first_words sha256_steps.schedule sha256_steps.rounds sha256_steps.compress sha256_steps.hash_after sha256_steps.digest_bytes sha256_steps.sha256
 returns-clause-unheard c = refl
 
 pub returns-clause-witness : goal.returns-clause-witness

@@ -1,4 +1,4 @@
-use Rattle.std.proofs.Common.{◌∙◌, ap}
+use Rattle.std.proofs.Common.{◌∙◌}
 use Rattle.oathd_database.specs.Lost.{boot_at}
 use Rattle.oathd_roster.specs.Enrolment.{enrolment_floors}
 use Rattle.oathd_roster.proofs.BegunLemmas.{begun_found}

@@ -1,10 +1,10 @@
-use Rattle.std.proofs.Common.{◌≡◌, ◌∙◌, IfSome, ap, rules, subst, sym}
+use Rattle.std.proofs.Common.{◌≡◌, ◌∙◌, IfSome, rules, subst, sym}
 use Rattle.std.proofs.lemmas.List.{length-map}
 use Rattle.oathd_database.specs.declared.fault.Fault.TheVariants.{Store}
 use Rattle.oathd_roster.specs.Opened.{IsNotOpened}
 use Rattle.oathd_roster.specs.declared.fault.RosterFault.{RosterFault}
 use Rattle.oathd_roster.specs.declared.fault.RosterFault.TheVariants.{Command}
-use Rattle.oathd_roster.proofs.OpenedLemmas.{kept_out, no_memory, opened_named, store_fails, unopened}
+use Rattle.oathd_roster.proofs.OpenedLemmas.{kept_out, opened_named, store_fails, unopened}
 use Rattle.oathd_roster.proofs.UsersLemmas.{err_is}
 use Rattle.oathd_roster.proofs.opening.open_named_store.Goals as goal
 

@@ -1,9 +1,7 @@
 -- The gate's port keeps the members of the port below, and what its gate is made of.
-use Rattle.std.proofs.Common.{◌≡◌, Option, Some, ap, inl, inr, sym, subst, ◌∙◌}
-use Rattle.std.specs.Prelude.{Err}
+use Rattle.std.proofs.Common.{Option, Some, ap, inl, inr, sym, subst, ◌∙◌}
 use Rattle.datagram_port.specs.Setup.{Setup}
 use Rattle.oathd_database.specs.Setup.{setup_behind}
-use Rattle.oathd_database.specs.declared.fault.Fault.TheVariants.{Memory}
 use Rattle.oathd_database.specs.declared.gate.Front.{Front}
 use Rattle.oathd_database.specs.declared.gate.Front.TheVariants.{Gate}
 use Rattle.oathd_roster.specs.Served.{IsServedNamed, packer_of, translator_of}

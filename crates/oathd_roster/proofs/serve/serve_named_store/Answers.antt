@@ -1,4 +1,4 @@
-use Rattle.std.proofs.Common.{◌≡◌, ◌∙◌, ℕ, ◌+◌, List, IfSome, ap, inl, inr, map, subst}
+use Rattle.std.proofs.Common.{◌∙◌, ℕ, ◌+◌, IfSome, ap, map, subst}
 use Rattle.std.specs.Global.{Vec}
 use Rattle.std.specs.declared.net.socket_addr.SocketAddrV4.{SocketAddrV4}
 use Rattle.node_log.specs.declared.text.Start.{Start}

@@ -1,0 +1,10 @@
+pub mod BundleLemmas
+pub mod WaitingLemmas
+pub mod OfferLemmas
+pub mod CallLemmas
+pub mod FormatLemmas
+pub mod HandLemmas
+pub mod LeftLemmas
+pub mod RowLemmas
+pub mod JoinLemmas
+pub mod SentLemmas

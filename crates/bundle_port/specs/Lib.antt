@@ -1,0 +1,5 @@
+pub mod Bundle
+pub mod Bundler
+pub mod Runs
+pub mod Promises
+pub mod Examples

@@ -1,0 +1,25 @@
+//! What a port that joins datagrams tells a log of the datagrams that it passed over: what the port below tells.
+
+use crate::port::BundlePort;
+use node_log::{Gatekeeper, Older, PLACES};
+use sealed_port::Unopened;
+
+impl<P: Gatekeeper + Drop> Gatekeeper for BundlePort<P> {
+    ghost unopened = { λ bundles. P.unopened bundles.port };
+
+    ghost older = { λ bundles. P.older bundles.port };
+
+    ghost differing = { λ bundles. P.differing bundles.port };
+
+    fn take_unopened(&mut self) -> Unopened {
+        self.port.take_unopened()
+    }
+
+    fn take_older(&mut self) -> Option<Older> {
+        self.port.take_older()
+    }
+
+    fn take_differing(&mut self) -> [bool; PLACES] {
+        self.port.take_differing()
+    }
+}

@@ -1,0 +1,211 @@
+//! A port over a port in memory.
+
+ghost use Rattle.std.specs.Prelude.{◌≤◌, IfOk};
+ghost use Rattle.datagram_port.specs.Port.{IsWithin};
+
+use crate::{BundlePort, is_bundle};
+use datagram_port::{Coming, ListPort, Port, PortEntry, Received, Sender};
+use std::alloc::Global;
+use std::test::Fail;
+
+/// A datagram of a member.
+fn from_member<'a>(member: u8, bytes: &'a [u8]) -> Coming<'a> {
+    Coming::Datagram {
+        sender: Sender::Peer(member),
+        bytes,
+    }
+}
+
+/// Returns the length of a received datagram of member 1.
+fn len_of(received: Received) -> Result<usize, Fail>
+    requires { IsWithin received }
+    ensures { IfOk result (λ len. len ≤ 512) }
+{
+    match received {
+        Received::Datagram {
+            sender: Sender::Peer(1),
+            len,
+        } => Ok(len),
+        _ => Err(Fail::new("no datagram of member 1")),
+    }
+}
+
+/// Returns whether an entry is the offer of a datagram.
+fn is_offer(entry: &PortEntry, receiver: Sender, datagram: &[u8]) -> bool {
+    match entry {
+        PortEntry::Offered { to, bytes } => *to == receiver && bytes.as_slice() == datagram,
+        _ => false,
+    }
+}
+
+/// Returns whether an entry is the offer of a datagram of the given length to member 2.
+fn has_len(entry: &PortEntry, len: usize) -> bool {
+    match entry {
+        PortEntry::Offered { to, bytes } => *to == Sender::Peer(2) && bytes.len() == len,
+        _ => false,
+    }
+}
+
+/// Three datagrams that can be parts.
+const FIRST: &[u8; 33] = &[b'a'; 33];
+
+const SECOND: &[u8; 32] = &[b'c'; 32];
+
+const THIRD: &[u8; 34] = &[b'd'; 34];
+
+/// Returns the bundle of the three.
+fn bundle_of_three() -> [u8; 105] {
+    let mut bytes = [0; 105];
+    bytes[..4].copy_from_slice(b"OB\x01\x21");
+    bytes[4..37].copy_from_slice(FIRST);
+    bytes[37] = 32;
+    bytes[38..70].copy_from_slice(SECOND);
+    bytes[70] = 34;
+    bytes[71..].copy_from_slice(THIRD);
+    bytes
+}
+
+/// Three datagrams to member 2 and one to member 3 are two offers at the next receive, in the order of the members.
+#[test]
+fn datagrams_are_joined(rt: HostRuntime) -> Result<(), Fail> {
+    let mut port = BundlePort::new(ListPort::new(rt.alloc(), &[]));
+    let mut buffer = [0; 512];
+    assert!(rt; port.send(Sender::Peer(2), FIRST));
+    assert!(rt; port.send(Sender::Peer(3), FIRST));
+    assert!(rt; port.send(Sender::Peer(2), SECOND));
+    assert!(rt; port.send(Sender::Peer(2), THIRD));
+    assert!(rt; port.poll(&mut buffer).is_none());
+    assert!(rt; port.receive(&mut buffer) == Received::Quiet);
+    let below = port.into_inner();
+    let entries = below.record().ok_or("a record")?;
+    assert!(rt; entries.len() == 3);
+    assert!(rt; is_offer(&entries[0], Sender::Peer(2), &bundle_of_three()));
+    assert!(rt; is_offer(&entries[1], Sender::Peer(3), FIRST));
+    assert!(rt; entries[2] == PortEntry::Quiet);
+    Ok(())
+}
+
+/// A datagram that can't be a part comes after what waits for its member. A client's datagram doesn't wait.
+#[test]
+fn others_do_not_wait(rt: HostRuntime) -> Result<(), Fail> {
+    let mut port = BundlePort::new(ListPort::new(rt.alloc(), &[]));
+    assert!(rt; port.send(Sender::Peer(2), FIRST));
+    assert!(rt; port.send(Sender::Client(2), b"c"));
+    assert!(rt; port.send(Sender::Peer(0), b"d"));
+    assert!(rt; port.send(Sender::Peer(10), b"e"));
+    assert!(rt; port.send(Sender::Peer(2), &[7; 256]));
+    let below = port.into_inner();
+    let entries = below.record().ok_or("a record")?;
+    assert!(rt; entries.len() == 5);
+    assert!(rt; is_offer(&entries[0], Sender::Client(2), b"c"));
+    assert!(rt; is_offer(&entries[1], Sender::Peer(0), b"d"));
+    assert!(rt; is_offer(&entries[2], Sender::Peer(10), b"e"));
+    assert!(rt; is_offer(&entries[3], Sender::Peer(2), FIRST));
+    assert!(rt; has_len(&entries[4], 256));
+    Ok(())
+}
+
+/// The port below refuses a datagram that doesn't wait.
+#[test]
+fn refusals_are_told(rt: HostRuntime) -> Result<(), Fail> {
+    let mut below = ListPort::new(rt.alloc(), &[]);
+    below.fail_sends();
+    let mut port = BundlePort::new(below);
+    assert!(rt; port.send(Sender::Peer(2), FIRST));
+    assert!(rt; !port.send(Sender::Peer(2), b""));
+    assert!(rt; !port.send(Sender::Client(2), FIRST));
+    Ok(())
+}
+
+/// Six parts of 79 bytes fit a bundle. The seventh goes into the next one.
+#[test]
+fn bundles_have_a_capacity(rt: HostRuntime) -> Result<(), Fail> {
+    let mut port = BundlePort::new(ListPort::new(rt.alloc(), &[]));
+    let mut buffer = [0; 512];
+    for _ in 0..8 {
+        assert!(rt; port.send(Sender::Peer(2), &[7; 79]));
+    }
+    assert!(rt; port.receive(&mut buffer) == Received::Quiet);
+    let below = port.into_inner();
+    let entries = below.record().ok_or("a record")?;
+    assert!(rt; entries.len() == 3);
+    assert!(rt; has_len(&entries[0], 3 + 6 * 80));
+    assert!(rt; has_len(&entries[1], 3 + 2 * 80));
+    Ok(())
+}
+
+/// The parts of a bundle are handed in one by one, before the port below is asked again.
+#[test]
+fn bundles_are_taken_apart(rt: HostRuntime) -> Result<(), Fail> {
+    let three = bundle_of_three();
+    let comings = [
+        from_member(1, &three),
+        from_member(1, b"OV"),
+        from_member(1, &three[..70]),
+    ];
+    let mut port = BundlePort::new(ListPort::new(rt.alloc(), &comings));
+    let mut buffer = [0; 512];
+    let len = len_of(port.receive(&mut buffer))?;
+    assert!(rt; &buffer[..len] == FIRST.as_slice());
+    let len = len_of(port.poll(&mut buffer).ok_or("a part is left")?)?;
+    assert!(rt; &buffer[..len] == SECOND.as_slice());
+    let len = len_of(port.receive(&mut buffer))?;
+    assert!(rt; &buffer[..len] == THIRD.as_slice());
+    let len = len_of(port.poll(&mut buffer).ok_or("a datagram")?)?;
+    assert!(rt; &buffer[..len] == b"OV".as_slice());
+    let len = len_of(port.poll(&mut buffer).ok_or("a bundle")?)?;
+    assert!(rt; &buffer[..len] == FIRST.as_slice());
+    let len = len_of(port.receive(&mut buffer))?;
+    assert!(rt; &buffer[..len] == SECOND.as_slice());
+    assert!(rt; port.receive(&mut buffer) == Received::Quiet);
+    Ok(())
+}
+
+/// Datagrams that are no bundles of members are handed in unchanged.
+#[test]
+fn others_are_not_taken_apart(rt: HostRuntime) -> Result<(), Fail> {
+    let three = bundle_of_three();
+    let comings = [
+        Coming::Datagram {
+            sender: Sender::Client(7),
+            bytes: &three,
+        },
+        from_member(1, &three[..104]),
+        Coming::Fault,
+    ];
+    let mut port = BundlePort::new(ListPort::new(rt.alloc(), &comings));
+    let mut buffer = [0; 512];
+    let from_client = Received::Datagram {
+        sender: Sender::Client(7),
+        len: 105,
+    };
+    assert!(rt; port.receive(&mut buffer) == from_client);
+    assert!(rt; &buffer[..105] == three.as_slice());
+    assert!(rt; len_of(port.receive(&mut buffer))? == 104);
+    assert!(rt; port.receive(&mut buffer) == Received::Fault);
+    Ok(())
+}
+
+/// Returns whether the first bytes of the bundle of three are a bundle.
+fn is_bundle_up_to(len: usize) -> bool
+    requires { len ≤ 105 }
+{
+    let three = bundle_of_three();
+    is_bundle(&three[..len])
+}
+
+/// A bundle is the mark, the version and whole parts of 32 bytes or more.
+#[test]
+fn bundles_are_told_apart(rt: HostRuntime) -> Result<(), Fail> {
+    assert!(rt; is_bundle_up_to(37) && is_bundle_up_to(70) && is_bundle_up_to(105));
+    assert!(rt; !is_bundle_up_to(3) && !is_bundle_up_to(36) && !is_bundle_up_to(38));
+    let mut other = bundle_of_three();
+    other[2] = 2;
+    assert!(rt; !is_bundle(&other));
+    other[2] = 1;
+    other[1] = b'V';
+    assert!(rt; !is_bundle(&other));
+    assert!(rt; !is_bundle(b"OB\x01\x01a"));
+    assert!(rt; !is_bundle(b""));
+    Ok(())
+}
