@@ -1,0 +1,9 @@
+pub mod CutLemmas
+pub mod LastLemmas
+pub mod NumberLemmas
+pub mod PageLemmas
+pub mod PagesLemmas
+pub mod ReadingLemmas
+pub mod RequestLemmas
+pub mod StatusLemmas
+pub mod SpellingLemmas

@@ -1,0 +1,84 @@
+-- Worked cases: users, lines, pages and the values of a node.
+use Rattle.std.specs.Prelude.{ℕ, false, true, List, [], ◌∷◌, ◌++◌, replicate, Option, Some, None, codes}
+use Rattle.sealed_port.specs.Causes.{nothing}
+use Rattle.sealed_port.specs.declared.cause.Unopened.{Unopened}
+use Rattle.operator_text.specs.Page.{PageRecord, PartRecord}
+use Rattle.operator_text.specs.declared.status.Refused.{Refused}
+use Rattle.operator_text.specs.declared.status.Status.{Status}
+
+-- `count` letters
+abbrev pub letters : ℕ → List ℕ
+letters count = replicate count 97
+
+-- a line of `count` letters and LF
+abbrev pub line_of : ℕ → List ℕ
+line_of count = letters count ++ codes "\n"
+
+-- a report of three lines
+abbrev pub three_lines : List (List ℕ)
+three_lines = codes "a\n" ∷ codes "b\n" ∷ codes "c\n" ∷ []
+
+-- a page that was read
+abbrev pub page_read : List ℕ → Option ℕ → Option PageRecord
+page_read lines next = Some (record { lines = lines; next = next })
+
+-- a page that lines were pushed to
+abbrev pub open_part : List ℕ → ℕ → PartRecord
+open_part lines next = record { lines = lines; next = next; is_full = false }
+
+-- a page that refused a line
+abbrev pub full_part : List ℕ → ℕ → PartRecord
+full_part lines next = record { lines = lines; next = next; is_full = true }
+
+-- a refusal of each reason, the n-th one n times
+abbrev pub refused_once : Refused
+refused_once = record {
+  bad_line = 1;
+  clock = 2;
+  busy = 3;
+  unknown = 4;
+  throttled = 5;
+  password = 6;
+  exhausted = 7;
+  invalid = 8;
+  spent = 9;
+  timeout = 10;
+}
+
+-- a datagram of each cause, the n-th one n times
+abbrev pub unopened_once : Unopened
+unopened_once = record { form = 1; tag = 2; early = 3; late = 4; again = 5; limited = 6 }
+
+-- node 1 of 3 without a book, refusals, unopened datagrams and other members
+abbrev pub first_status : Status
+first_status = record {
+  node = 1;
+  members = 3;
+  boot = 7;
+  version = record { major = 0; minor = 9; patch = 0 };
+  clock = 1800000000;
+  started = 1700000000;
+  fingerprint = codes "b1061f3a2d61dfbd";
+  book = None;
+  tokens = 2;
+  pending = 0;
+  closed = 1;
+  received = 6;
+  replied = 4;
+  accepted = 3;
+  refused = record {
+    bad_line = 0;
+    clock = 0;
+    busy = 0;
+    unknown = 0;
+    throttled = 0;
+    password = 0;
+    exhausted = 0;
+    invalid = 0;
+    spent = 0;
+    timeout = 0;
+  };
+  ticks = 5;
+  unopened = nothing;
+  others = record { items = [] };
+}

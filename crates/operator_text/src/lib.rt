@@ -1,0 +1,32 @@
+//! The texts of the operator's channel: requests, and the pages of the reports that answer them.
+//!
+//! [`read_request`] accepts what [`write_request`] writes and nothing else (the law [`requests_have_one_spelling`]). A
+//! [`Page`] takes lines of a report, and [`read_page`] reads it. The pages of a report, put together, are its lines
+//! (the law [`pages_are_the_report`]). A [`Status`] has the lines of the report STATUS. No function allocates.
+#![tactic(auto)]
+
+mod laws;
+mod number;
+mod page;
+mod reading;
+mod request;
+mod status;
+mod status_laws;
+mod status_line;
+#[cfg(test)]
+mod tests;
+mod worked;
+
+pub use laws::{pages_are_read, pages_are_the_report, requests_have_one_spelling};
+pub use page::{MAX_LINE_LEN, MAX_PAGE_LEN, Page};
+pub use reading::read_page;
+pub use request::{MAX_REQUEST_LEN, Report, Request, read_request, write_request};
+pub use status::{MAX_STATUS_LINES, Other, Refused, Status, Version};
+pub use status_laws::{
+    status_is_a_report, status_lines_are_worked, status_lines_can_be_broken, statuses_are_worked,
+};
+pub use status_line::{Quantity, Refusal, Seen, StatusLine};
+pub use worked::{
+    lines_can_be_broken, pages_are_worked, pushes_are_worked, readings_are_worked,
+    reports_can_be_broken, requests_are_worked, wishes_can_be_broken,
+};

@@ -1,0 +1,231 @@
+//! The values of a STATUS report.
+
+ghost use Rattle.std.specs.Prelude.{◌≡◌, ◌++◌, ◌∷◌, ◌+◌, ◌<◌, ◌≤◌, [], length, map, slice_get};
+ghost use Rattle.std.specs.Option.{option_map};
+ghost use Rattle.arrayvec.specs.ArrayVec.{array_vec_len};
+ghost use Rattle.operator_text.specs.Status as spec;
+ghost use Rattle.operator_text.specs.StatusLine.{line_text};
+ghost use Rattle.operator_text.specs.declared.status_line.StatusLine.TheVariants as Variants;
+
+use crate::page::MAX_LINE_LEN;
+use crate::status_line::{Quantity, Refusal, Seen, StatusLine};
+use arrayvec::ArrayVec;
+use sealed_port::{Cause, Unopened};
+
+/// The maximum number of lines of a STATUS report.
+pub const MAX_STATUS_LINES: usize = 38;
+
+/// The maximum number of other members.
+const MAX_OTHERS: usize = 8;
+
+/// The version of a program.
+#[derive(Clone, Copy, Debug, PartialEq, Eq)]
+pub struct Version {
+    pub major: u16,
+    pub minor: u16,
+    pub patch: u16,
+}
+
+/// The numbers of a node's refusals, by their reasons.
+#[derive(Clone, Copy, Debug, Default, PartialEq, Eq)]
+pub struct Refused {
+    pub bad_line: u64,
+    pub clock: u64,
+    pub busy: u64,
+    pub unknown: u64,
+    pub throttled: u64,
+    pub password: u64,
+    pub exhausted: u64,
+    pub invalid: u64,
+    pub spent: u64,
+    pub timeout: u64,
+}
+
+/// Another member, and what the node sees of it.
+#[derive(Clone, Copy, Debug, Default, PartialEq, Eq)]
+pub struct Other {
+    pub number: u8,
+    pub seen: Seen,
+}
+
+/// The values of a node that a STATUS report tells.
+#[derive(Debug, Drop)]
+pub struct Status {
+    /// The number of the node, and the number of members.
+    pub node: u8,
+    pub members: u8,
+    /// The number of the node's boot.
+    pub boot: u64,
+    /// The version of the node's program.
+    pub version: Version,
+    /// The clock, and the time at which the process began, in seconds since 1970-01-01 00:00:00 UTC.
+    pub clock: u64,
+    pub started: u64,
+    /// The fingerprint of the key under which the node tags its datagrams: 16 hexadecimal digits.
+    pub fingerprint: [u8; 16],
+    /// The print of the users file's rows, if the store knows tokens by their names: 16 hexadecimal digits.
+    pub book: Option<[u8; 16]>,
+    /// The number of the tokens, of the lines that wait for votes, and of the tokens that are closed.
+    pub tokens: u32,
+    pub pending: u32,
+    pub closed: u32,
+    /// The number of datagrams that the node received, of the replies that it sent, and of the lines that it accepted.
+    pub received: u64,
+    pub replied: u64,
+    pub accepted: u64,
+    pub refused: Refused,
+    /// The number of the node's ticks.
+    pub ticks: u64,
+    pub unopened: Unopened,
+    /// The other members, in ascending order.
+    pub others: ArrayVec<Other, MAX_OTHERS>,
+}
+
+/// The lines of a report.
+type Lines = ArrayVec<StatusLine, MAX_STATUS_LINES>;
+
+/// Appends a line of a quantity.
+fn push_quantity(lines: &mut Lines, quantity: Quantity, number: u64)
+    requires { array_vec_len lines.old < 38 }
+    ensures items { lines.new.items ≡ lines.old.items ++ Variants.Number quantity number ∷ [] }
+    ensures len { array_vec_len lines.new ≡ array_vec_len lines.old + 1 }
+{
+    lines.push(StatusLine::Number(quantity, number));
+}
+
+/// Appends a line of a refusal, if its number isn't 0.
+fn push_refusal(lines: &mut Lines, refusal: Refusal, number: u64)
+    requires { array_vec_len lines.old < 38 }
+    ensures items { lines.new.items ≡ lines.old.items ++ spec.if_any (Variants.Refused refusal) number }
+    ensures len { array_vec_len lines.new ≤ array_vec_len lines.old + 1 }
+{
+    if number != 0 {
+        lines.push(StatusLine::Refused(refusal, number));
+    }
+}
+
+/// Appends a line of a cause, if its number isn't 0.
+fn push_cause(lines: &mut Lines, cause: Cause, number: u64)
+    requires { array_vec_len lines.old < 38 }
+    ensures items { lines.new.items ≡ lines.old.items ++ spec.if_any (Variants.Unopened cause) number }
+    ensures len { array_vec_len lines.new ≤ array_vec_len lines.old + 1 }
+{
+    if number != 0 {
+        lines.push(StatusLine::Unopened(cause, number));
+    }
+}
+
+/// Appends the lines of refusals.
+fn push_refused(lines: &mut Lines, refused: &Refused)
+    requires { array_vec_len lines.old ≤ 28 }
+    ensures items { lines.new.items ≡ lines.old.items ++ spec.refused_lines refused.now }
+    ensures len { array_vec_len lines.new ≤ array_vec_len lines.old + 10 }
+{
+    push_refusal(lines, Refusal::BadLine, refused.bad_line);
+    push_refusal(lines, Refusal::Clock, refused.clock);
+    push_refusal(lines, Refusal::Busy, refused.busy);
+    push_refusal(lines, Refusal::Unknown, refused.unknown);
+    push_refusal(lines, Refusal::Throttled, refused.throttled);
+    push_refusal(lines, Refusal::Password, refused.password);
+    push_refusal(lines, Refusal::Exhausted, refused.exhausted);
+    push_refusal(lines, Refusal::Invalid, refused.invalid);
+    push_refusal(lines, Refusal::Spent, refused.spent);
+    push_refusal(lines, Refusal::Timeout, refused.timeout);
+}
+
+/// Appends the lines of datagrams that were not opened.
+fn push_unopened(lines: &mut Lines, unopened: &Unopened)
+    requires { array_vec_len lines.old ≤ 32 }
+    ensures items { lines.new.items ≡ lines.old.items ++ spec.unopened_lines unopened.now }
+    ensures len { array_vec_len lines.new ≤ array_vec_len lines.old + 6 }
+{
+    push_cause(lines, Cause::Form, unopened.form);
+    push_cause(lines, Cause::Tag, unopened.tag);
+    push_cause(lines, Cause::Early, unopened.early);
+    push_cause(lines, Cause::Late, unopened.late);
+    push_cause(lines, Cause::Again, unopened.again);
+    push_cause(lines, Cause::Limited, unopened.limited);
+}
+
+/// Appends the lines of other members.
+fn push_others(lines: &mut Lines, others: &[Other])
+    requires { array_vec_len lines.old + length others.now ≤ 38 }
+    ensures { lines.new.items ≡ lines.old.items ++ map spec.other_line others.now }
+{
+    for other in others {
+        lines.push(StatusLine::Member(other.number, other.seen));
+    }
+}
+
+/// Returns the text of the line with the given number, or None.
+fn text_at(lines: &[StatusLine], number: u32) -> Option<ArrayVec<u8, MAX_LINE_LEN>>
+    ensures { option_map (λ text. text.items) result ≡ slice_get (map line_text lines.now) number }
+{
+    match lines.get(number as usize) {
+        Some(line) => Some(line.text()),
+        None => None,
+    }
+}
+
+impl Status {
+    /// Appends the lines of the node, its process and its keys.
+    fn push_identity(&self, lines: &mut Lines)
+        requires { array_vec_len lines.old ≤ 0 }
+        ensures items { lines.new.items ≡ lines.old.items ++ spec.identity_lines self.now }
+        ensures len { array_vec_len lines.new ≡ array_vec_len lines.old + 6 }
+    {
+        lines.push(StatusLine::Node(self.node, self.members));
+        push_quantity(lines, Quantity::Boot, self.boot);
+        lines.push(StatusLine::Version(self.version.major, self.version.minor, self.version.patch));
+        push_quantity(lines, Quantity::Clock, self.clock);
+        push_quantity(lines, Quantity::Started, self.started);
+        lines.push(StatusLine::Fingerprint(self.fingerprint));
+    }
+
+    /// Appends the line of the book, if the store knows tokens by their names.
+    fn push_book(&self, lines: &mut Lines)
+        requires { array_vec_len lines.old < 38 }
+        ensures items { lines.new.items ≡ lines.old.items ++ spec.book_lines self.now.book }
+        ensures len { array_vec_len lines.new ≤ array_vec_len lines.old + 1 }
+    {
+        if let Some(digits) = self.book {
+            lines.push(StatusLine::Book(digits));
+        }
+    }
+
+    /// Appends the lines of the node's tokens and answers.
+    fn push_tokens(&self, lines: &mut Lines)
+        requires { array_vec_len lines.old ≤ 32 }
+        ensures items { lines.new.items ≡ lines.old.items ++ spec.token_lines self.now }
+        ensures len { array_vec_len lines.new ≡ array_vec_len lines.old + 6 }
+    {
+        push_quantity(lines, Quantity::Tokens, u64::from(self.tokens));
+        push_quantity(lines, Quantity::Pending, u64::from(self.pending));
+        push_quantity(lines, Quantity::Closed, u64::from(self.closed));
+        push_quantity(lines, Quantity::Received, self.received);
+        push_quantity(lines, Quantity::Replied, self.replied);
+        push_quantity(lines, Quantity::Accepted, self.accepted);
+    }
+
+    /// Returns the lines of the report.
+    pub fn lines(&self) -> ArrayVec<StatusLine, MAX_STATUS_LINES>
+        ensures { result.items ≡ spec.status_lines self.now }
+    {
+        let mut lines = ArrayVec::new();
+        self.push_identity(&mut lines);
+        self.push_book(&mut lines);
+        self.push_tokens(&mut lines);
+        push_refused(&mut lines, &self.refused);
+        push_quantity(&mut lines, Quantity::Ticks, self.ticks);
+        push_unopened(&mut lines, &self.unopened);
+        push_others(&mut lines, &self.others);
+        lines
+    }
+
+    /// Returns the text of the line with the given number, with its LF, or None if the report has no such line.
+    pub fn write_line(&self, number: u32) -> Option<ArrayVec<u8, MAX_LINE_LEN>>
+        ensures { option_map (λ text. text.items) result ≡ slice_get (spec.status_text self.now) number }
+    {
+        text_at(&self.lines(), number)
+    }
+}
