@@ -1,8 +1,8 @@
 -- The lines of a STATUS report, by the node's values.
-use Rattle.std.specs.Prelude.{ℕ, ◌==◌, List, [], ◌∷◌, ◌++◌, map, Option, Some, None, if◌then◌else◌}
+use Rattle.std.specs.Prelude.{ℕ, ◌==◌, List, [], ◌∷◌, ◌++◌, map, IfSome, Option, Some, None, if◌then◌else◌}
 use Rattle.sealed_port.specs.declared.cause.Cause.TheVariants.{Form, Tag, Early, Late, Again, Limited}
 use Rattle.sealed_port.specs.declared.cause.Unopened.{Unopened}
-use Rattle.operator_text.specs.StatusLine.{line_text}
+use Rattle.operator_text.specs.StatusLine.{IsPrint, line_text}
 use Rattle.operator_text.specs.declared.status.Other.{Other}
 use Rattle.operator_text.specs.declared.status.Refused.{Refused}
 use Rattle.operator_text.specs.declared.status.Status.{Status}
@@ -10,6 +10,10 @@ use Rattle.operator_text.specs.declared.status_line.Quantity.TheVariants as Quan
 use Rattle.operator_text.specs.declared.status_line.Refusal.TheVariants as Refusals
 use Rattle.operator_text.specs.declared.status_line.StatusLine.{StatusLine}
 use Rattle.operator_text.specs.declared.status_line.StatusLine.TheVariants as Lines
+
+-- the prints of a node are hexadecimal digits
+abbrev pub HasPrints : Status → Type 0
+HasPrints status = IsPrint status.fingerprint × IfSome status.book IsPrint
 
 -- the node, its process and its keys
 abbrev pub identity_lines : Status → List StatusLine

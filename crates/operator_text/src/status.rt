@@ -1,10 +1,11 @@
 //! The values of a STATUS report.
 
-ghost use Rattle.std.specs.Prelude.{◌≡◌, ◌++◌, ◌∷◌, ◌+◌, ◌<◌, ◌≤◌, [], length, map, slice_get};
+ghost use Rattle.std.specs.Prelude.{◌≡◌, ◌++◌, ◌∷◌, ◌+◌, ◌<◌, ◌≤◌, [], All, length, map, slice_get};
 ghost use Rattle.std.specs.Option.{option_map};
 ghost use Rattle.arrayvec.specs.ArrayVec.{array_vec_len};
 ghost use Rattle.operator_text.specs.Status as spec;
-ghost use Rattle.operator_text.specs.StatusLine.{line_text};
+ghost use Rattle.operator_text.specs.Status.{HasPrints};
+ghost use Rattle.operator_text.specs.StatusLine.{IsStatusLine, line_text};
 ghost use Rattle.operator_text.specs.declared.status_line.StatusLine.TheVariants as Variants;
 
 use crate::page::MAX_LINE_LEN;
@@ -89,6 +90,7 @@ fn push_quantity(lines: &mut Lines, quantity: Quantity, number: u64)
     requires { array_vec_len lines.old < 38 }
     ensures items { lines.new.items ≡ lines.old.items ++ Variants.Number quantity number ∷ [] }
     ensures len { array_vec_len lines.new ≡ array_vec_len lines.old + 1 }
+    ensures each { All IsStatusLine lines.old.items → All IsStatusLine lines.new.items }
 {
     lines.push(StatusLine::Number(quantity, number));
 }
@@ -98,6 +100,7 @@ fn push_refusal(lines: &mut Lines, refusal: Refusal, number: u64)
     requires { array_vec_len lines.old < 38 }
     ensures items { lines.new.items ≡ lines.old.items ++ spec.if_any (Variants.Refused refusal) number }
     ensures len { array_vec_len lines.new ≤ array_vec_len lines.old + 1 }
+    ensures each { All IsStatusLine lines.old.items → All IsStatusLine lines.new.items }
 {
     if number != 0 {
         lines.push(StatusLine::Refused(refusal, number));
@@ -109,10 +112,41 @@ fn push_cause(lines: &mut Lines, cause: Cause, number: u64)
     requires { array_vec_len lines.old < 38 }
     ensures items { lines.new.items ≡ lines.old.items ++ spec.if_any (Variants.Unopened cause) number }
     ensures len { array_vec_len lines.new ≤ array_vec_len lines.old + 1 }
+    ensures each { All IsStatusLine lines.old.items → All IsStatusLine lines.new.items }
 {
     if number != 0 {
         lines.push(StatusLine::Unopened(cause, number));
     }
+}
+
+/// Appends the line of a node.
+fn push_node(lines: &mut Lines, node: u8, members: u8)
+    requires { array_vec_len lines.old < 38 }
+    ensures items { lines.new.items ≡ lines.old.items ++ Variants.Node node members ∷ [] }
+    ensures len { array_vec_len lines.new ≡ array_vec_len lines.old + 1 }
+    ensures each { All IsStatusLine lines.old.items → All IsStatusLine lines.new.items }
+{
+    lines.push(StatusLine::Node(node, members));
+}
+
+/// Appends the line of a version.
+fn push_version(lines: &mut Lines, major: u16, minor: u16, patch: u16)
+    requires { array_vec_len lines.old < 38 }
+    ensures items { lines.new.items ≡ lines.old.items ++ Variants.Version major minor patch ∷ [] }
+    ensures len { array_vec_len lines.new ≡ array_vec_len lines.old + 1 }
+    ensures each { All IsStatusLine lines.old.items → All IsStatusLine lines.new.items }
+{
+    lines.push(StatusLine::Version(major, minor, patch));
+}
+
+/// Appends the line of another member.
+fn push_member(lines: &mut Lines, number: u8, seen: Seen)
+    requires { array_vec_len lines.old < 38 }
+    ensures items { lines.new.items ≡ lines.old.items ++ Variants.Member number seen ∷ [] }
+    ensures len { array_vec_len lines.new ≡ array_vec_len lines.old + 1 }
+    ensures each { All IsStatusLine lines.old.items → All IsStatusLine lines.new.items }
+{
+    lines.push(StatusLine::Member(number, seen));
 }
 
 /// Appends the lines of refusals.
@@ -120,6 +154,7 @@ fn push_refused(lines: &mut Lines, refused: &Refused)
     requires { array_vec_len lines.old ≤ 28 }
     ensures items { lines.new.items ≡ lines.old.items ++ spec.refused_lines refused.now }
     ensures len { array_vec_len lines.new ≤ array_vec_len lines.old + 10 }
+    ensures each { All IsStatusLine lines.old.items → All IsStatusLine lines.new.items }
 {
     push_refusal(lines, Refusal::BadLine, refused.bad_line);
     push_refusal(lines, Refusal::Clock, refused.clock);
@@ -138,6 +173,7 @@ fn push_unopened(lines: &mut Lines, unopened: &Unopened)
     requires { array_vec_len lines.old ≤ 32 }
     ensures items { lines.new.items ≡ lines.old.items ++ spec.unopened_lines unopened.now }
     ensures len { array_vec_len lines.new ≤ array_vec_len lines.old + 6 }
+    ensures each { All IsStatusLine lines.old.items → All IsStatusLine lines.new.items }
 {
     push_cause(lines, Cause::Form, unopened.form);
     push_cause(lines, Cause::Tag, unopened.tag);
@@ -150,10 +186,11 @@ fn push_unopened(lines: &mut Lines, unopened: &Unopened)
 /// Appends the lines of other members.
 fn push_others(lines: &mut Lines, others: &[Other])
     requires { array_vec_len lines.old + length others.now ≤ 38 }
-    ensures { lines.new.items ≡ lines.old.items ++ map spec.other_line others.now }
+    ensures items { lines.new.items ≡ lines.old.items ++ map spec.other_line others.now }
+    ensures each { All IsStatusLine lines.old.items → All IsStatusLine lines.new.items }
 {
     for other in others {
-        lines.push(StatusLine::Member(other.number, other.seen));
+        push_member(lines, other.number, other.seen);
     }
 }
 
@@ -170,13 +207,19 @@ fn text_at(lines: &[StatusLine], number: u32) -> Option<ArrayVec<u8, MAX_LINE_LE
 impl Status {
     /// Appends the lines of the node, its process and its keys.
     fn push_identity(&self, lines: &mut Lines)
-        requires { array_vec_len lines.old ≤ 0 }
+        requires { array_vec_len lines.old ≤ 32 }
         ensures items { lines.new.items ≡ lines.old.items ++ spec.identity_lines self.now }
         ensures len { array_vec_len lines.new ≡ array_vec_len lines.old + 6 }
+        ensures each { HasPrints self.now → All IsStatusLine lines.old.items → All IsStatusLine lines.new.items }
     {
-        lines.push(StatusLine::Node(self.node, self.members));
+        push_node(lines, self.node, self.members);
         push_quantity(lines, Quantity::Boot, self.boot);
-        lines.push(StatusLine::Version(self.version.major, self.version.minor, self.version.patch));
+        push_version(
+            lines,
+            self.version.major,
+            self.version.minor,
+            self.version.patch,
+        );
         push_quantity(lines, Quantity::Clock, self.clock);
         push_quantity(lines, Quantity::Started, self.started);
         lines.push(StatusLine::Fingerprint(self.fingerprint));
@@ -187,6 +230,7 @@ impl Status {
         requires { array_vec_len lines.old < 38 }
         ensures items { lines.new.items ≡ lines.old.items ++ spec.book_lines self.now.book }
         ensures len { array_vec_len lines.new ≤ array_vec_len lines.old + 1 }
+        ensures each { HasPrints self.now → All IsStatusLine lines.old.items → All IsStatusLine lines.new.items }
     {
         if let Some(digits) = self.book {
             lines.push(StatusLine::Book(digits));
@@ -198,6 +242,7 @@ impl Status {
         requires { array_vec_len lines.old ≤ 32 }
         ensures items { lines.new.items ≡ lines.old.items ++ spec.token_lines self.now }
         ensures len { array_vec_len lines.new ≡ array_vec_len lines.old + 6 }
+        ensures each { All IsStatusLine lines.old.items → All IsStatusLine lines.new.items }
     {
         push_quantity(lines, Quantity::Tokens, u64::from(self.tokens));
         push_quantity(lines, Quantity::Pending, u64::from(self.pending));
@@ -209,7 +254,9 @@ impl Status {
 
     /// Returns the lines of the report.
     pub fn lines(&self) -> ArrayVec<StatusLine, MAX_STATUS_LINES>
-        ensures { result.items ≡ spec.status_lines self.now }
+        ensures items { result.items ≡ spec.status_lines self.now }
+        // the laws of pages hold for the report
+        ensures each { HasPrints self.now → All IsStatusLine result.items }
     {
         let mut lines = ArrayVec::new();
         self.push_identity(&mut lines);
