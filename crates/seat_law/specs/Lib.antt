@@ -1,0 +1,4 @@
+pub mod Seats
+pub mod Below
+pub mod Examples
+pub mod Broken
