@@ -1,5 +1,6 @@
 pub mod FloorLemmas
 pub mod RowLemmas
+pub mod FreshLemmas
 pub mod OfferLemmas
 pub mod CallLemmas
 pub mod HandLemmas

@@ -1,9 +1,10 @@
 -- The offers of a quiet turn, one after the other.
-use Rattle.std.proofs.Common.{◌≡◌, ℕ, zero, suc, ◌+◌, List, [], ◌++◌, Option, Some, None, refl, sym, ap, subst, ◌∙◌, arith, append_assoc, append-nil}
+use Rattle.std.proofs.Common.{◌≡◌, ℕ, zero, suc, ◌+◌, List, [], ◌∷◌, ◌++◌, length, Option, Some, None, refl, sym, ap, subst, ◌∙◌, arith, append_assoc, append-nil}
 use Rattle.datagram_port.specs.Port.{Grows, PortEvent}
 use Rattle.floor_port.specs.Floors.{floors_body}
-use Rattle.floor_port.specs.Packer.{PackerRecord, body_offers, member_offer, turn_offers}
+use Rattle.floor_port.specs.Packer.{PackerRecord, body_of, body_offers, member_offer, offers_of, turn_offers}
 use Rattle.floor_port.specs.Rows.{RowsRecord, after_turn, after_turns, next_floors}
+use Rattle.floor_port.specs.declared.floor.NamedFloor.{NamedFloor}
 
 abbrev present : {A : Type 0} → A → Option A
 present x = Some x
@@ -63,6 +64,31 @@ offers_same : (packer : PackerRecord) (rows : RowsRecord) (body : List ℕ) (fir
 offers_same packer rows body first zero = refl
 offers_same packer rows body first (suc count) = ap (λ (l : List PortEvent). member_offer packer body first ++ l) (offers_same packer rows body (first + 1) count)
 
+offers_of_same : (packer : PackerRecord) (rows : RowsRecord) (body : Option (List ℕ)) → offers_of (with_rows packer rows) body ≡ offers_of packer body
+offers_of_same packer rows None = refl
+offers_of_same packer rows (Some body) = offers_same packer rows body 1 packer.members
+
+-- no floors have no body
+pub no_body : (floors : List NamedFloor) → length floors ≡ 0 → body_of floors ≡ None
+no_body [] none = refl
+no_body (floor ∷ floors) none = absurd (omega (arith, none))
+
+-- some floors have a body
+pub some_body : (floors : List NamedFloor) → (length floors ≡ 0 → ⊥) → body_of floors ≡ Some (floors_body floors)
+some_body [] some = absurd (some refl)
+some_body (floor ∷ floors) some = refl
+
+-- the body of some floors is told
+pub told_body : (old new : Option (List PortEvent)) (packer at : PackerRecord) (rows : RowsRecord) (body : List ℕ) (floors : List NamedFloor) → at ≡ with_rows packer rows → Some body ≡ body_of floors
+    → Grows old new (body_offers at body 1 at.members) → Grows old new (offers_of packer (body_of floors))
+told_body old new packer at rows body floors at_is is grows =
+    subst (Grows old new)
+    (ap (λ (p : PackerRecord). body_offers p body 1 p.members) at_is ∙ offers_same packer rows body 1 packer.members ∙ ap (offers_of packer) is) grows
+
+-- there are no floors to tell
+pub told_none : (events : Option (List PortEvent)) (packer : PackerRecord) (floors : List NamedFloor) → None ≡ body_of floors → Grows events events (offers_of packer (body_of floors))
+told_none events packer floors is = subst (Grows events events) (ap (offers_of packer) is) (grows_none events)
+
 turns_more : (rows : RowsRecord) (turns : ℕ) → after_turns rows (suc turns) ≡ after_turn (after_turns rows turns)
 turns_more rows zero = refl
 turns_more rows (suc turns) = turns_more (after_turn rows) turns
@@ -73,24 +99,21 @@ turn_after rows turns =
     let next : suc turns ≡ turns + 1 = omega arith in sym (turns_more rows turns) ∙ ap (after_turns rows) next
 
 turn_offers_more : (packer : PackerRecord) (rows : RowsRecord) (turns : ℕ)
-    → turn_offers packer rows (suc turns) ≡ turn_offers packer rows turns ++ body_offers packer (floors_body (next_floors (after_turns rows turns))) 1 packer.members
-turn_offers_more packer rows zero = append-nil (body_offers packer (floors_body (next_floors rows)) 1 packer.members)
+    → turn_offers packer rows (suc turns) ≡ turn_offers packer rows turns ++ offers_of packer (body_of (next_floors (after_turns rows turns)))
+turn_offers_more packer rows zero = append-nil (offers_of packer (body_of (next_floors rows)))
 turn_offers_more packer rows (suc turns) =
-    let first = body_offers packer (floors_body (next_floors rows)) 1 packer.members in
+    let first = offers_of packer (body_of (next_floors rows)) in
     ap (λ (l : List PortEvent). first ++ l) (turn_offers_more packer (after_turn rows) turns)
-    ∙ sym (append_assoc first (turn_offers packer (after_turn rows) turns) (body_offers packer (floors_body (next_floors (after_turns (after_turn rows) turns))) 1 packer.members))
+    ∙ sym (append_assoc first (turn_offers packer (after_turn rows) turns) (offers_of packer (body_of (next_floors (after_turns (after_turn rows) turns)))))
 
 -- the offers of one more turn
-pub one_turn : (old mid new : Option (List PortEvent)) (packer at : PackerRecord) (body : List ℕ) (turns : ℕ) → Grows old mid (turn_offers packer packer.rows turns)
-    → at ≡ with_rows packer (after_turn (after_turns packer.rows turns)) → body ≡ floors_body (next_floors (after_turns packer.rows turns))
-    → Grows mid new (body_offers at body 1 at.members) → Grows old new (turn_offers packer packer.rows (turns + 1))
-one_turn old mid new packer at body turns before at_is body_is grows =
+pub one_turn : (old mid new : Option (List PortEvent)) (packer at : PackerRecord) (turns : ℕ) → Grows old mid (turn_offers packer packer.rows turns) → at ≡ with_rows packer (after_turns packer.rows turns)
+    → Grows mid new (offers_of at (body_of (next_floors at.rows))) → Grows old new (turn_offers packer packer.rows (turns + 1))
+one_turn old mid new packer at turns before at_is grows =
     let next : suc turns ≡ turns + 1 = omega arith in
-    let rows = after_turn (after_turns packer.rows turns) in
-    let told : body_offers at body 1 at.members ≡ body_offers packer (floors_body (next_floors (after_turns packer.rows turns))) 1 packer.members =
-    ap (λ (p : PackerRecord). body_offers p body 1 p.members) at_is
-    ∙ offers_same packer rows body 1 packer.members
-    ∙ ap (λ (b : List ℕ). body_offers packer b 1 packer.members) body_is in
+    let rows = after_turns packer.rows turns in
+    let told : offers_of at (body_of (next_floors at.rows)) ≡ offers_of packer (body_of (next_floors rows)) =
+    ap (λ (p : PackerRecord). offers_of p (body_of (next_floors p.rows))) at_is ∙ offers_of_same packer rows (body_of (next_floors rows)) in
     subst (Grows old new) (ap (λ (l : List PortEvent). turn_offers packer packer.rows turns ++ l) told
     ∙ sym (turn_offers_more packer packer.rows turns) ∙ ap (turn_offers packer packer.rows) next)
-    (grows_both old mid new (turn_offers packer packer.rows turns) (body_offers at body 1 at.members) before grows)
+    (grows_both old mid new (turn_offers packer packer.rows turns) (offers_of at (body_of (next_floors at.rows))) before grows)

@@ -1,9 +1,9 @@
 -- The floors of rows, told and raised floor by floor.
-use Rattle.std.proofs.Common.{◌≡◌, ℕ, zero, suc, ◌+◌, ◌-◌, ◌<◌, ◌≤◌, Bool, true, false, cond, List, [], ◌∷◌, ◌++◌, length, take, drop, get_or, ltb, Option, Some, None, refl, sym, ap, ◌∙◌, arith, append_assoc}
+use Rattle.std.proofs.Common.{◌≡◌, ℕ, zero, suc, ◌+◌, ◌-◌, ◌<◌, ◌≤◌, Bool, true, false, cond, List, [], ◌∷◌, ◌++◌, length, take, drop, get_or, ltb, Option, Some, None, refl, sym, ap, ◌∙◌, arith, append_assoc, append-nil}
 use Rattle.std.specs.Prelude.{slice_get, slice_index, slice_set, IfSome}
-use Rattle.std.proofs.lemmas.List.{drop_more, get_or-drop, length-drop, length-set, take_all, take_more}
+use Rattle.std.proofs.lemmas.List.{drop_more, get_or-drop, length-drop, length-set, length-take, take_all, take_more}
 use Rattle.std.proofs.lemmas.Option.{slice_get_within}
-use Rattle.floor_port.specs.Rows.{after_floor, after_floors, is_news, named_floors, news, raised}
+use Rattle.floor_port.specs.Rows.{after_floor, after_floors, is_fresh, is_news, named_floors, news, not_fresh, raised}
 use Rattle.floor_port.specs.declared.floor.NamedFloor.{NamedFloor}
 
 -- a row of a name is within the names
@@ -69,7 +69,7 @@ named_at (one ∷ names) (next ∷ told) zero name d at low = cc
 named_at (one ∷ names) (next ∷ told) (suc row) name d at low = named_at names told row name d at (omega (arith, low))
 
 -- the floor of one more row
-pub turn_more : (names : List (List ℕ)) (told : List ℕ) (first row : ℕ) (name : List ℕ) → length told ≡ length names → first ≤ row → row < length told
+turn_more : (names : List (List ℕ)) (told : List ℕ) (first row : ℕ) (name : List ℕ) → length told ≡ length names → first ≤ row → row < length told
     → slice_get names row ≡ Some name
     → take (row + 1 - first) (drop first (named_floors names told))
     ≡ take (row - first) (drop first (named_floors names told)) ++ named name (get_or told row 0) ∷ []
@@ -94,6 +94,59 @@ turn_last names told turn len end =
     let rest = length-drop turn all in
     take_all (length told - turn) (drop turn all) (omega (arith, rest, whole, len))
     ∙ sym (take_all 20 (drop turn all) (omega (arith, rest, whole, len, end)))
+
+-- ---- rows that aren't fresh
+
+fresh_more : (fresh : List ℕ) (row : ℕ) (floors : List NamedFloor) (floor : NamedFloor)
+    → not_fresh fresh row (floors ++ floor ∷ []) ≡ not_fresh fresh row floors ++ cond (is_fresh fresh (row + length floors)) [] (floor ∷ [])
+fresh_more fresh row [] floor =
+    let same : row ≡ row + 0 = omega arith in
+    ap (λ (n : ℕ). cond (is_fresh fresh n) [] (floor ∷ [])) same
+fresh_more fresh row (one ∷ floors) floor = go (is_fresh fresh row) (fresh_more fresh (row + 1) floors floor)
+  where
+    last : List NamedFloor
+    last = cond (is_fresh fresh (row + length (one ∷ floors))) [] (floor ∷ [])
+
+    same : row + 1 + length floors ≡ row + length (one ∷ floors)
+    same = omega arith
+
+    go : (is : Bool) → not_fresh fresh (row + 1) (floors ++ floor ∷ []) ≡ not_fresh fresh (row + 1) floors ++ cond (is_fresh fresh (row + 1 + length floors)) [] (floor ∷ [])
+        → cond is (not_fresh fresh (row + 1) (floors ++ floor ∷ [])) (one ∷ not_fresh fresh (row + 1) (floors ++ floor ∷ []))
+        ≡ cond is (not_fresh fresh (row + 1) floors) (one ∷ not_fresh fresh (row + 1) floors) ++ last
+    go true rest = rest ∙ ap (λ (n : ℕ). not_fresh fresh (row + 1) floors ++ cond (is_fresh fresh n) [] (floor ∷ [])) same
+    go false rest =
+        ap (λ (l : List NamedFloor). one ∷ l) (rest ∙ ap (λ (n : ℕ). not_fresh fresh (row + 1) floors ++ cond (is_fresh fresh n) [] (floor ∷ [])) same)
+
+-- the floors of the rows from a first one up to another that aren't fresh
+abbrev pub told_upto : List (List ℕ) → List ℕ → List ℕ → ℕ → ℕ → List NamedFloor
+told_upto names told fresh first row = not_fresh fresh first (take (row - first) (drop first (named_floors names told)))
+
+upto_more : (names : List (List ℕ)) (told fresh : List ℕ) (first row : ℕ) (name : List ℕ) → length told ≡ length names → first ≤ row → row < length told → slice_get names row ≡ Some name
+    → told_upto names told fresh first (row + 1) ≡ told_upto names told fresh first row ++ cond (is_fresh fresh row) [] (named name (get_or told row 0) ∷ [])
+upto_more names told fresh first row name len from low at =
+    let all = drop first (named_floors names told) in
+    let floor = named name (get_or told row 0) in
+    let whole = named_len names told len in
+    let place : first + length (take (row - first) all) ≡ row =
+    omega (arith, length-take (row - first) all, length-drop first (named_floors names told), whole, len, from, low) in
+    ap (not_fresh fresh first) (turn_more names told first row name len from low at)
+    ∙ fresh_more fresh first (take (row - first) all) floor
+    ∙ ap (λ (n : ℕ). told_upto names told fresh first row ++ cond (is_fresh fresh n) [] (floor ∷ [])) place
+
+-- one more row is fresh
+pub upto_fresh : (names : List (List ℕ)) (told fresh : List ℕ) (first row : ℕ) (name : List ℕ) → length told ≡ length names → first ≤ row → row < length told → slice_get names row ≡ Some name
+    → is_fresh fresh row ≡ true → told_upto names told fresh first (row + 1) ≡ told_upto names told fresh first row
+upto_fresh names told fresh first row name len from low at is =
+    upto_more names told fresh first row name len from low at
+    ∙ ap (λ (b : Bool). told_upto names told fresh first row ++ cond b [] (named name (get_or told row 0) ∷ [])) is
+    ∙ append-nil (told_upto names told fresh first row)
+
+-- one more row isn't
+pub upto_other : (names : List (List ℕ)) (told fresh : List ℕ) (first row : ℕ) (name : List ℕ) → length told ≡ length names → first ≤ row → row < length told → slice_get names row ≡ Some name
+    → is_fresh fresh row ≡ false → told_upto names told fresh first (row + 1) ≡ told_upto names told fresh first row ++ named name (get_or told row 0) ∷ []
+upto_other names told fresh first row name len from low at is =
+    upto_more names told fresh first row name len from low at
+    ∙ ap (λ (b : Bool). told_upto names told fresh first row ++ cond b [] (named name (get_or told row 0) ∷ [])) is
 
 -- ---- the number of names
 

@@ -1,5 +1,5 @@
 -- What a port tells over its calls, and floors that rise.
-use Rattle.std.proofs.Common.{◌≡◌, ℕ, zero, suc, ◌+◌, ◌<◌, ◌≤◌, Bool, true, false, cond, eqb, ltb, List, [], ◌∷◌, ◌++◌, take, drop, Option, Some, None, refl, sym, ap, subst, ◌∙◌, arith, true≢false, inl, inr}
+use Rattle.std.proofs.Common.{◌≡◌, ℕ, zero, suc, ◌+◌, ◌<◌, ◌≤◌, Bool, true, false, cond, eqb, ltb, List, [], ◌∷◌, ◌++◌, length, take, drop, Option, Some, None, refl, sym, ap, subst, ◌∙◌, arith, true≢false, inl, inr}
 use Rattle.std.specs.Prelude.{◌⊎◌, slice_get, slice_index, slice_set}
 use Rattle.std.proofs.lemmas.Bool.{and_parts, eqb-false, ltb-true}
 use Rattle.std.proofs.lemmas.List.{length-take}
@@ -9,9 +9,9 @@ use Rattle.datagram_port.specs.declared.port.Sender.TheVariants.{Client, Peer}
 use Rattle.named_port.specs.Names.{number_of}
 use Rattle.named_wire.specs.declared.head.Head.{Head}
 use Rattle.floor_port.specs.Floors.{floors_body}
-use Rattle.floor_port.specs.Packer.{PackerRecord, after_member, after_told, body_offers, floor_head, floors_datagram, member_offer, new_packer, told_by, turn_offers, turns_due, with_others}
+use Rattle.floor_port.specs.Packer.{PackerRecord, after_member, after_told, body_of, body_offers, floor_head, floors_datagram, member_offer, new_packer, offers_of, told_by, turn_offers, turns_due, with_others}
 use Rattle.floor_port.specs.Promises.{Among, IsOwnFloor, IsWitnessed, TellsFloors}
-use Rattle.floor_port.specs.Rows.{RowsRecord, after_floor, after_floors, after_news, after_turn, after_turns, after_witness, named_floors, news, next_floors, raised}
+use Rattle.floor_port.specs.Rows.{RowsRecord, after_floor, after_floors, after_news, after_telling, after_turn, after_turns, after_witness, is_fresh, named_floors, news, next_floors, not_fresh, raised}
 use Rattle.floor_port.specs.Runs.{Call, Came, Left, Offer, after, after_calls, below, below_events, may_call, may_make}
 use Rattle.floor_port.specs.Witness.{witness_of}
 use Rattle.floor_port.specs.declared.floor.NamedFloor.{NamedFloor}
@@ -59,6 +59,9 @@ turns_rise : (rows : RowsRecord) (turns : ℕ) → HaveRisen rows (after_turns r
 turns_rise rows zero = same_rise rows
 turns_rise rows (suc turns) = let rest = turns_rise (after_turn rows) turns in record { told = rest.told; known = rest.known }
 
+quiet_rise : (rows : RowsRecord) (turns : ℕ) → HaveRisen rows (after_telling (after_turns rows turns))
+quiet_rise rows turns = let all = turns_rise rows turns in record { told = all.told; known = all.known }
+
 member_rows : (p : PackerRecord) (member : ℕ) (told : Option (Head × List NamedFloor)) → (after_member p member told).rows ≡ p.rows
 member_rows p member None = refl
 member_rows p member (Some told) = refl
@@ -93,7 +96,7 @@ witness_rise rows (Some floor) = record {
 call_rise : (p : PackerRecord) (call : Call) → HaveRisen p.rows (after p call).rows
 call_rise p (Came (Received (Peer member) bytes)) = datagram_rise p member (told_by p member bytes)
 call_rise p (Came (Received (Client number) bytes)) = same_rise p.rows
-call_rise p (Came Quiet) = turns_rise p.rows (turns_due p)
+call_rise p (Came Quiet) = quiet_rise p.rows (turns_due p)
 call_rise p (Came Faulted) = same_rise p.rows
 call_rise p (Came (Offered to bytes)) = same_rise p.rows
 call_rise p Left = same_rise p.rows
@@ -184,6 +187,26 @@ among_drop zero told floor h = h
 among_drop (suc count) [] floor h = absurd h
 among_drop (suc count) (one ∷ told) floor h = inr (among_drop count told floor h)
 
+-- the floors of rows that aren't fresh are among the floors
+among_fresh : (fresh : List ℕ) (row : ℕ) (floors : List NamedFloor) (floor : NamedFloor) → Among (not_fresh fresh row floors) floor → Among floors floor
+among_fresh fresh row [] floor h = absurd h
+among_fresh fresh row (one ∷ floors) floor h = go (is_fresh fresh row) (among_fresh fresh (row + 1) floors floor) h
+  where
+    go : (is : Bool) → (Among (not_fresh fresh (row + 1) floors) floor → Among floors floor)
+        → Among (cond is (not_fresh fresh (row + 1) floors) (one ∷ not_fresh fresh (row + 1) floors)) floor → Among (one ∷ floors) floor
+    go true rest later = inr (rest later)
+    go false rest (inl same) = inl same
+    go false rest (inr later) = inr (rest later)
+
+fresh_len : (fresh : List ℕ) (row : ℕ) (floors : List NamedFloor) → length (not_fresh fresh row floors) ≤ length floors
+fresh_len fresh row [] = omega arith
+fresh_len fresh row (one ∷ floors) = go (is_fresh fresh row) (fresh_len fresh (row + 1) floors)
+  where
+    go : (is : Bool) → length (not_fresh fresh (row + 1) floors) ≤ length floors
+        → length (cond is (not_fresh fresh (row + 1) floors) (one ∷ not_fresh fresh (row + 1) floors)) ≤ length (one ∷ floors)
+    go true rest = omega (arith, rest)
+    go false rest = omega (arith, rest)
+
 among_named : (names : List (List ℕ)) (told : List ℕ) (floor : NamedFloor) → Among (named_floors names told) floor → (row : ℕ) × (slice_get names row ≡ Some floor.name) × (slice_get told row ≡ Some floor.next)
 among_named [] told floor h = absurd h
 among_named (name ∷ names) [] floor h = absurd h
@@ -193,7 +216,9 @@ among_named (name ∷ names) (next ∷ told) floor (inr later) =
 
 own_floors : (rows : RowsRecord) (floors : List ℕ) (all : List Call) → AreOwn rows.names floors all rows.told → (floor : NamedFloor) → Among (next_floors rows) floor → IsOwnFloor rows.names floors all floor
 own_floors rows floors all own floor h =
-    let at = among_named rows.names rows.told floor (among_drop rows.turn (named_floors rows.names rows.told) floor (among_take 20 (drop rows.turn (named_floors rows.names rows.told)) floor h)) in
+    let rest = drop rows.turn (named_floors rows.names rows.told) in
+    let turn = among_take 20 rest floor (among_fresh rows.fresh rows.turn (take 20 rest) floor h) in
+    let at = among_named rows.names rows.told floor (among_drop rows.turn (named_floors rows.names rows.told) floor turn) in
     record { row = at.0; name_is = at.1; next_is = own at.0 floor.next at.2 }
 
 -- ---- the offers of a quiet turn
@@ -225,12 +250,24 @@ to_members p body first (suc count) event h = elim (among_parts (member_offer p 
   | inr back ↦ to_members p body (first + 1) count event back
 ]
 
+-- the offers of the body of some floors
+to_others : (p : PackerRecord) (floors : List NamedFloor) (event : PortEvent) → Among (offers_of p (body_of floors)) event → IsBodyOffer p (floors_body floors) event
+to_others p [] event h = absurd h
+to_others p (floor ∷ floors) event h = to_members p (floors_body (floor ∷ floors)) 1 p.members event h
+
 -- the event tells floors of the node
 record IsFloorsOffer (p : PackerRecord) (floors : List ℕ) (all : List Call) (event : PortEvent) : Type 0 where
   to : Sender
   bytes : List ℕ
   event_is : Offered to bytes ≡ event
   tells : TellsFloors p.key p.rows.names p.me p.boot floors all to bytes
+
+few_next : (rows : RowsRecord) → length (next_floors rows) ≤ 20
+few_next rows =
+    let rest = drop rows.turn (named_floors rows.names rows.told) in
+    let most = length-take 20 rest in
+    let len = fresh_len rows.fresh rows.turn (take 20 rest) in
+    omega (arith, most, len)
 
 told_turn : (p : PackerRecord) (rows : RowsRecord) (floors : List ℕ) (all : List Call) (event : PortEvent) → rows.names ≡ p.rows.names → AreOwn p.rows.names floors all rows.told
     → IsBodyOffer p (floors_body (next_floors rows)) event → IsFloorsOffer p floors all event
@@ -243,7 +280,7 @@ told_turn p rows floors all event same own o = record {
     to_is = refl;
     is_other = o.is_other;
     told = next_floors rows;
-    most = (let most = length-take 20 (drop rows.turn (named_floors rows.names rows.told)) in omega (arith, most));
+    most = few_next rows;
     each = λ floor h. subst (λ (names : List (List ℕ)). IsOwnFloor names floors all floor) same
         (own_floors rows floors all (subst (λ (names : List (List ℕ)). AreOwn names floors all rows.told) (sym same) own) floor h);
     bytes_are = refl;
@@ -254,8 +291,8 @@ told_turns : (p : PackerRecord) (rows : RowsRecord) (turns : ℕ) (floors : List
     → Among (turn_offers p rows turns) event → IsFloorsOffer p floors all event
 told_turns p rows zero floors all event same own h = absurd h
 told_turns p rows (suc turns) floors all event same own h =
-    elim (among_parts (body_offers p (floors_body (next_floors rows)) 1 p.members) (turn_offers p (after_turn rows) turns) event h) [
-      | inl front ↦ told_turn p rows floors all event same own (to_members p (floors_body (next_floors rows)) 1 p.members event front)
+    elim (among_parts (offers_of p (body_of (next_floors rows))) (turn_offers p (after_turn rows) turns) event h) [
+      | inl front ↦ told_turn p rows floors all event same own (to_others p (next_floors rows) event front)
       | inr back ↦ told_turns p (after_turn rows) turns floors all event same own back
     ]
 

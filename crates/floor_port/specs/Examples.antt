@@ -34,7 +34,15 @@ node_2 = new_packer zeros book 2 5 3 (replicate 3 5)
 
 -- a row of the book, with floors of its tokens that the node bears witness to and that it knows
 abbrev pub rows_with : List ℕ → List ℕ → ℕ → RowsRecord
-rows_with told known turn = record { names = book; told = told; known = known; turn = turn }
+rows_with told known turn = record { names = book; told = told; known = known; turn = turn; fresh = [] }
+
+-- the rows of the book with the floors 5, 6 and 7, of which some are fresh
+abbrev pub fresh_rows : List ℕ → RowsRecord
+fresh_rows fresh = record (rows_with (5 ∷ 6 ∷ 7 ∷ []) (8 ∷ 8 ∷ 8 ∷ []) 0) { fresh = fresh }
+
+-- node 2 with rows
+abbrev pub node_2_over : RowsRecord → PackerRecord
+node_2_over rows = record node_2 { rows = rows }
 
 -- a pace with a number of quiet turns until member 1 is silent, and of a fast round
 abbrev pub pace_with : ℕ → ℕ → PaceRecord

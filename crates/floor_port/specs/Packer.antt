@@ -10,7 +10,7 @@ use Rattle.named_wire.specs.declared.head.Kind.TheVariants.{Floor, Floors}
 use Rattle.named_port.specs.Translator.{between}
 use Rattle.floor_port.specs.Floors.{floor_bytes, floors_body, told_in}
 use Rattle.floor_port.specs.Pace.{PaceRecord, after_heard, after_quiet, due, new_pace}
-use Rattle.floor_port.specs.Rows.{RowsRecord, after_news, after_turn, after_turns, after_witness, new_rows, news, next_floors, turns_of}
+use Rattle.floor_port.specs.Rows.{RowsRecord, after_news, after_telling, after_turn, after_turns, after_witness, new_rows, news, next_floors, turns_of}
 use Rattle.floor_port.specs.Witness.{witness_of}
 use Rattle.floor_port.specs.declared.floor.NamedFloor.{NamedFloor}
 
@@ -150,12 +150,21 @@ body_offers packer body first zero = []
 body_offers packer body first (suc count) =
     member_offer packer body first ++ body_offers packer body (first + 1) count
 
+-- the body of some floors, if there are any
+abbrev pub body_of : List NamedFloor → Option (List ℕ)
+body_of [] = None
+body_of (floor ∷ floors) = Some (floors_body (floor ∷ floors))
+
+-- the offers of a body to each other member, if there is a body
+abbrev pub offers_of : PackerRecord → Option (List ℕ) → List PortEvent
+offers_of packer None = []
+offers_of packer (Some body) = body_offers packer body 1 packer.members
+
 -- the offers of the floors of a number of turns
 abbrev pub turn_offers : PackerRecord → RowsRecord → ℕ → List PortEvent
 turn_offers packer rows zero = []
 turn_offers packer rows (suc turns) =
-    body_offers packer (floors_body (next_floors rows)) 1 packer.members
-    ++ turn_offers packer (after_turn rows) turns
+    offers_of packer (body_of (next_floors rows)) ++ turn_offers packer (after_turn rows) turns
 
 -- the number of turns at a quiet turn of the port
 abbrev pub turns_due : PackerRecord → ℕ
@@ -168,10 +177,10 @@ told_at packer Quiet = turn_offers packer packer.rows (turns_due packer)
 told_at packer Faulted = []
 told_at packer (Offered to bytes) = []
 
--- the packer after a quiet turn
+-- the packer after a quiet turn: no row is fresh
 abbrev pub after_quiet_turn : PackerRecord → PackerRecord
 after_quiet_turn packer = record packer {
-  rows = after_turns packer.rows (turns_due packer);
+  rows = after_telling (after_turns packer.rows (turns_due packer));
   pace = after_quiet packer.pace;
 }
 

@@ -1,5 +1,5 @@
 -- What a port that tells floors promises of what it hands in and of what it offers, in all executions.
-use Rattle.std.specs.Prelude.{◌≡◌, ◌⊎◌, ℕ, ◌≤◌, List, [], ◌∷◌, length, slice_get, Some}
+use Rattle.std.specs.Prelude.{◌≡◌, ◌⊎◌, ℕ, ◌≤◌, false, List, [], ◌∷◌, length, slice_get, Some}
 use Rattle.datagram_port.specs.Port.{PortEvent, Received, Offered}
 use Rattle.datagram_port.specs.declared.port.Sender.{Sender}
 use Rattle.datagram_port.specs.declared.port.Sender.TheVariants.{Peer}
@@ -9,6 +9,7 @@ use Rattle.named_wire.specs.declared.head.Head.{Head}
 use Rattle.named_wire.specs.declared.head.Kind.TheVariants.{Floors}
 use Rattle.floor_port.specs.Floors.{floor_bytes, floors_body, told_in}
 use Rattle.floor_port.specs.Packer.{floor_head}
+use Rattle.floor_port.specs.Rows.{RowsRecord, is_fresh}
 use Rattle.floor_port.specs.Runs.{Call, Came, Offer}
 use Rattle.floor_port.specs.Witness.{witness_of}
 use Rattle.floor_port.specs.declared.floor.NamedFloor.{NamedFloor}
@@ -83,3 +84,10 @@ pub record TellsFloors (key : List ℕ) (names : List (List ℕ)) (me boot : ℕ
   pub each : (floor : NamedFloor) → Among told floor → IsOwnFloor names floors calls floor
   pub bytes_are : bytes
       ≡ datagram_bytes key (record { kind = Floors; from = me; to = member; boot = boot }) (floors_body told)
+
+-- the floor of a row that isn't fresh
+pub record IsNotFresh (rows : RowsRecord) (floor : NamedFloor) : Type 0 where
+  pub row : ℕ
+  pub name_is : slice_get rows.names row ≡ Some floor.name
+  pub next_is : slice_get rows.told row ≡ Some floor.next
+  pub is_other : is_fresh rows.fresh row ≡ false

@@ -1,6 +1,7 @@
 -- The floors of the rows of a book: those that the node bears witness to, and those that it was told.
-use Rattle.std.specs.Prelude.{◌≡◌, ℕ, zero, suc, ◌+◌, ◌≤◌, Bool, false, nat_lt, nat_le, if◌then◌else◌, List, [], ◌∷◌, length, take, drop, slice_index, slice_set, Option, Some, None}
+use Rattle.std.specs.Prelude.{◌≡◌, ℕ, zero, suc, ◌+◌, ◌≤◌, ◌==◌, ◌||◌, Bool, false, nat_lt, nat_le, if◌then◌else◌, List, [], ◌∷◌, ◌++◌, length, take, drop, slice_index, slice_set, Option, Some, None}
 use Rattle.std.specs.Int.{div_ceil}
+use Rattle.std.specs.List.{list_any}
 use Rattle.named_port.specs.Names.{number_of}
 use Rattle.floor_port.specs.declared.floor.NamedFloor.{NamedFloor}
 
@@ -37,15 +38,29 @@ news names floors (floor ∷ others) =
     if is_news names floors floor then floor ∷ news names (after_floor names floors floor) others
     else news names (after_floor names floors floor) others
 
+-- ---- fresh rows
+
+-- whether a row is fresh
+abbrev pub is_fresh : List ℕ → ℕ → Bool
+is_fresh fresh row = list_any (λ one. one == row) fresh
+
+-- The fresh rows with one more, if there is the row and it isn't fresh. At most 64 are remembered.
+abbrev pub with_fresh : List ℕ → Option ℕ → List ℕ
+with_fresh fresh None = fresh
+with_fresh fresh (Some row) =
+    if is_fresh fresh row || nat_le 64 (length fresh) then fresh else fresh ++ row ∷ []
+
 -- ---- rows
 
 -- The rows of a book: the names of their tokens, the floors that the node bears witness to, the greatest floors that
--- the node bears witness to or was told, and the row whose floor is told next.
+-- the node bears witness to or was told, the row whose floor is told next, and the fresh rows. A row is fresh if the
+-- node raised its floor by a witness since the last quiet turn.
 pub record RowsRecord : Type 0 where
   pub names : List (List ℕ)
   pub told : List ℕ
   pub known : List ℕ
   pub turn : ℕ
+  pub fresh : List ℕ
 
 -- there is a floor for each name, and a row for the turn if there are rows
 pub record AreRows (rows : RowsRecord) : Type 0 where
@@ -56,7 +71,7 @@ pub record AreRows (rows : RowsRecord) : Type 0 where
 
 -- the rows of a store with the given floors
 abbrev pub new_rows : List (List ℕ) → List ℕ → RowsRecord
-new_rows names floors = record { names = names; told = floors; known = floors; turn = 0 }
+new_rows names floors = record { names = names; told = floors; known = floors; turn = 0; fresh = [] }
 
 -- the rows after the node bore witness to a floor, if it did
 abbrev pub after_witness : RowsRecord → Option NamedFloor → RowsRecord
@@ -64,6 +79,8 @@ after_witness rows None = rows
 after_witness rows (Some floor) = record rows {
   told = after_floor rows.names rows.told floor;
   known = after_floor rows.names rows.known floor;
+  fresh = if is_news rows.names rows.told floor then with_fresh rows.fresh (number_of rows.names floor.name)
+      else rows.fresh;
 }
 
 -- the rows after the node was told floors
@@ -78,9 +95,16 @@ named_floors [] floors = []
 named_floors (name ∷ names) [] = []
 named_floors (name ∷ names) (next ∷ floors) = record { name = name; next = next } ∷ named_floors names floors
 
--- the floors that are told next, at most 20
+-- the floors of the rows from a first one on that aren't fresh
+abbrev pub not_fresh : List ℕ → ℕ → List NamedFloor → List NamedFloor
+not_fresh fresh row [] = []
+not_fresh fresh row (floor ∷ floors) =
+    if is_fresh fresh row then not_fresh fresh (row + 1) floors else floor ∷ not_fresh fresh (row + 1) floors
+
+-- the floors that are told next: those of the next 20 rows that aren't fresh
 abbrev pub next_floors : RowsRecord → List NamedFloor
-next_floors rows = take 20 (drop rows.turn (named_floors rows.names rows.told))
+next_floors rows =
+    not_fresh rows.fresh rows.turn (take 20 (drop rows.turn (named_floors rows.names rows.told)))
 
 -- the rows after these floors were told
 abbrev pub after_turn : RowsRecord → RowsRecord
@@ -95,3 +119,7 @@ after_turns rows (suc turns) = after_turns (after_turn rows) turns
 -- the number of turns that all rows take
 abbrev pub turns_of : RowsRecord → ℕ
 turns_of rows = div_ceil (length rows.told) 20
+
+-- the rows after the telling of a quiet turn
+abbrev pub after_telling : RowsRecord → RowsRecord
+after_telling rows = record rows { fresh = [] }

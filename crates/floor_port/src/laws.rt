@@ -1,10 +1,12 @@
-ghost use Rattle.std.specs.Prelude.{◌≡◌, ◌⊎◌, ◌↔◌, ◌+◌, ◌≤◌, ℕ, List, Some, length, slice_index, true};
-ghost use Rattle.datagram_port.specs.Port.{Offered, PortEvent};
+ghost use Rattle.std.specs.Prelude.{◌≡◌, ◌⊎◌, ◌↔◌, ◌+◌, ◌<◌, ◌≤◌, ℕ, List, [], Some, length, slice_index, true};
+ghost use Rattle.datagram_port.specs.Port.{Offered, PortEvent, Quiet};
 ghost use Rattle.datagram_port.specs.declared.port.Sender.{Sender};
+ghost use Rattle.named_port.specs.Names.{number_of};
 ghost use Rattle.named_wire.specs.Bytes.{AreBytes};
 ghost use Rattle.floor_port.specs.Floors.{IsBodyOf, floors_at};
-ghost use Rattle.floor_port.specs.Packer.{PackerRecord, new_packer};
-ghost use Rattle.floor_port.specs.Promises.{Among, HandsIn, TellsFloors};
+ghost use Rattle.floor_port.specs.Packer.{PackerRecord, after_event, new_packer};
+ghost use Rattle.floor_port.specs.Promises.{Among, HandsIn, IsNotFresh, TellsFloors};
+ghost use Rattle.floor_port.specs.Rows.{RowsRecord, after_witness, is_fresh, next_floors};
 ghost use Rattle.floor_port.specs.Runs.{Call, Offer, after_calls, below_events, handed_events, may_make};
 ghost use Rattle.floor_port.specs.declared.floor.NamedFloor.{NamedFloor};
 
@@ -41,4 +43,14 @@ pub fn floors_rise()
         (calls : List Call) (row : ℕ) →
         slice_index floors row
         ≤ slice_index (after_calls (new_packer key names me boot members floors) calls).rows.told row }
+{}
+
+/// Fresh floors wait: a floor that is told next is that of a row that isn't fresh. A witness that raises a floor makes
+/// its row fresh, if fewer than 64 are. After a quiet turn no row is fresh.
+pub fn fresh_floors_wait()
+    ensures waits { (rows : RowsRecord) (floor : NamedFloor) → Among (next_floors rows) floor → IsNotFresh rows floor }
+    ensures raised { (rows : RowsRecord) (floor : NamedFloor) (row : ℕ) →
+        number_of rows.names floor.name ≡ Some row → slice_index rows.told row < floor.next → length rows.fresh < 64 →
+        is_fresh (after_witness rows (Some floor)).fresh row ≡ true }
+    ensures quiet { (packer : PackerRecord) → (after_event packer Quiet).rows.fresh ≡ [] }
 {}

@@ -4,10 +4,15 @@
 //! the cluster's key. At each quiet turn the port tells the other members floors that its node bears witness to. It
 //! unpacks what members tell: of a datagram with news it hands in each floor that is news as one datagram. All other
 //! datagrams pass unchanged, also those that tell no news, and those whose tag is wrong.
+//!
+//! A floor that the node raised by a witness since the last quiet turn is fresh. The port tells it at a later quiet
+//! turn. The datagrams of the vote may still be on their way, and a member that knows the floor before the vote denies
+//! it. The port remembers 64 fresh floors. It tells further ones at the next quiet turn.
 #![tactic(auto)]
 
 mod body;
 mod floor;
+mod fresh;
 mod gatekeeper;
 mod laws;
 mod pace;
@@ -23,13 +28,14 @@ mod worked;
 pub use body::{MAX_FLOORS, floors_body, floors_told};
 pub use floor::NamedFloor;
 pub use laws::{
-    floors_one_spelling, floors_rise, what_is_handed_in_was_told, what_is_told_is_the_nodes,
+    floors_one_spelling, floors_rise, fresh_floors_wait, what_is_handed_in_was_told,
+    what_is_told_is_the_nodes,
 };
 pub use packer::Membership;
 pub use port::FloorPort;
 pub use witness::witness_of;
 pub use worked::{
-    bodies_are_worked, calls_are_worked, calls_can_be_broken, offers_are_worked, paces_are_worked,
-    packers_are_worked, promises_can_be_broken, rows_are_worked, setups_are_worked,
-    setups_can_be_broken, witnesses_are_worked,
+    bodies_are_worked, calls_are_worked, calls_can_be_broken, fresh_rows_are_worked,
+    offers_are_worked, paces_are_worked, packers_are_worked, promises_can_be_broken,
+    rows_are_worked, setups_are_worked, setups_can_be_broken, witnesses_are_worked,
 };

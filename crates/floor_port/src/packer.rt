@@ -5,10 +5,9 @@ ghost use Rattle.std.specs.Prelude.{◌≡◌, ◌≢◌, ◌≤◌, ◌==◌, i
 ghost use Rattle.datagram_port.specs.Port.{IsWithin, Received as ReceivedEvent, event_of_receive};
 ghost use Rattle.datagram_port.specs.declared.port.Received.TheVariants.{Quiet};
 ghost use Rattle.datagram_port.specs.declared.port.Sender.TheVariants.{Peer};
-ghost use Rattle.floor_port.specs.Floors.{floors_body};
 ghost use Rattle.floor_port.specs.Pace.{after_quiet};
 ghost use Rattle.floor_port.specs.Packer as spec;
-ghost use Rattle.floor_port.specs.Rows.{after_turn, next_floors};
+ghost use Rattle.floor_port.specs.Rows.{after_telling, after_turn, next_floors};
 
 use crate::body::{MAX_FLOORS, floor_body, floors_body, floors_told};
 use crate::floor::NamedFloor;
@@ -86,6 +85,17 @@ fn tells_floors(bytes: &[u8]) -> bool
         Some(kind) => *kind == 4 || *kind == 5,
         None => false,
     }
+}
+
+/// Returns the body of at most 20 floors, or None if there are none.
+fn body_of(floors: &[NamedFloor]) -> Option<ArrayVec<u8, MAX_BODY_LEN>>
+    requires { length floors.now ≤ 20 }
+    ensures { option_map (λ body. body.items) result ≡ spec.body_of floors.now }
+{
+    if floors.is_empty() {
+        return None;
+    }
+    Some(floors_body(floors))
 }
 
 impl Pending {
@@ -261,18 +271,22 @@ impl<'k> Packer<'k> {
         self.pace.due(self.rows.turns())
     }
 
-    /// Returns the body of the floors that are told next, and goes on to those after them.
-    pub(crate) fn take_turn(&mut self) -> ArrayVec<u8, MAX_BODY_LEN>
-        ensures body { result.items ≡ floors_body (next_floors self.old.rows) }
+    /// Returns the body of the floors that are told next, or None if there are none. Goes on to the rows after them.
+    pub(crate) fn take_turn(&mut self) -> Option<ArrayVec<u8, MAX_BODY_LEN>>
+        ensures body { option_map (λ body. body.items) result ≡ spec.body_of (next_floors self.old.rows) }
         ensures after { self.new ≡ record self.old { rows = after_turn self.old.rows } }
     {
-        floors_body(&self.rows.take_turn())
+        body_of(&self.rows.take_turn())
     }
 
-    /// Notes a quiet turn.
+    /// Notes that the floors of a quiet turn were told.
     pub(crate) fn note_quiet(&mut self)
-        ensures { self.new ≡ record self.old { pace = after_quiet self.old.pace } }
+        ensures { self.new ≡ record self.old {
+          rows = after_telling self.old.rows;
+          pace = after_quiet self.old.pace;
+        } }
     {
+        self.rows.note_telling();
         self.pace.note_quiet();
     }
 

@@ -6,6 +6,7 @@ ghost use Rattle.datagram_port.specs.Port.{Grows, IsWithin, Offered, entries_of_
 ghost use Rattle.datagram_port.specs.declared.port.Received.TheVariants.{Quiet};
 ghost use Rattle.floor_port.specs.Packer.{after_event, body_offers, handed_in, member_offer, new_packer, told_at};
 ghost use Rattle.floor_port.specs.Packer as spec;
+ghost use Rattle.floor_port.specs.Rows.{after_turn, next_floors};
 ghost use Rattle.floor_port.specs.Runs.{IsAfter, at_start, handed_events};
 ghost use Rattle.floor_port.specs.Setup.{telling_setup};
 
@@ -52,7 +53,19 @@ fn tell_members<P: Port>(port: &mut P, packer: &Packer<'_>, body: &[u8])
     }
 }
 
-/// Tells the floors that are due at a quiet turn.
+/// Tells the floors that are told next, if there are any.
+fn tell_turn<P: Port>(port: &mut P, packer: &mut Packer<'_>)
+    ensures offers { Grows (P.events port.old) (P.events port.new)
+        (spec.offers_of packer.old (spec.body_of (next_floors packer.old.rows))) }
+    ensures after { packer.new ≡ record packer.old { rows = after_turn packer.old.rows } }
+    ensures stays { P.setup port.new ≡ P.setup port.old }
+{
+    if let Some(body) = packer.take_turn() {
+        tell_members(port, packer, &body);
+    }
+}
+
+/// Tells the floors that are due at a quiet turn. After it no row is fresh.
 fn tell<P: Port>(port: &mut P, packer: &mut Packer<'_>)
     ensures offers { Grows (P.events port.old) (P.events port.new) (spec.turn_offers packer.old packer.old.rows
         (spec.turns_due packer.old)) }
@@ -60,8 +73,7 @@ fn tell<P: Port>(port: &mut P, packer: &mut Packer<'_>)
     ensures stays { P.setup port.new ≡ P.setup port.old }
 {
     for _ in 0..packer.turns_due() {
-        let body = packer.take_turn();
-        tell_members(port, packer, &body);
+        tell_turn(port, packer);
     }
     packer.note_quiet();
 }

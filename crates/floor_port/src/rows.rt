@@ -7,6 +7,7 @@ ghost use Rattle.named_port.specs.Names.{number_of};
 
 use crate::body::MAX_FLOORS;
 use crate::floor::NamedFloor;
+use crate::fresh::Fresh;
 use arrayvec::ArrayVec;
 use named_port::Names;
 use otp_core::Next;
@@ -14,13 +15,15 @@ use std::alloc::{AllocError, Global};
 use std::marker::Model;
 use token_names::Name;
 
-/// The rows of a book, with the floors that the node bears witness to, and those that it knows.
+/// The rows of a book, with the floors that the node bears witness to, and those that it knows. The floors of fresh
+/// rows are not told yet.
 #[derive(Drop)]
 pub(crate) struct Rows<'k> {
     names: &'k Names,
     told: Vec<u64>,
     known: Vec<u64>,
     turn: usize,
+    fresh: Fresh,
 }
 
 impl<'k> Model for Rows<'k> {
@@ -33,6 +36,7 @@ impl<'k> Model for Rows<'k> {
       told = rows.told.items;
       known = rows.known.items;
       turn = rows.turn;
+      fresh = rows.fresh;
     } };
 
     ghost invariant = { λ rows. AreRows (record {
@@ -40,6 +44,7 @@ impl<'k> Model for Rows<'k> {
       told = rows.told.items;
       known = rows.known.items;
       turn = rows.turn;
+      fresh = rows.fresh;
     }) };
 }
 
@@ -100,26 +105,30 @@ fn raise_all(
     news
 }
 
-/// Returns the floors of the rows from `first` to `last`, without `last`.
+/// Returns the floors of the rows from `first` to `last`, without `last`, that aren't fresh.
 fn floors_between(
     names: &Names,
     told: &[u64],
+    fresh: &Fresh,
     first: usize,
     last: usize,
 ) -> ArrayVec<NamedFloor, MAX_FLOORS>
     requires rows { (length told.now ≡ length names.now) × (length told.now ≤ 10000) }
     requires places { (first ≤ last) × ((last ≤ length told.now) × (last ≤ first + 20)) }
-    ensures { result.items ≡ take (last - first) (drop first (spec.named_floors names.now told.now)) }
+    ensures floors { result.items
+        ≡ spec.not_fresh fresh.now first (take (last - first) (drop first (spec.named_floors names.now told.now))) }
 {
     let mut floors = ArrayVec::new();
     for row in first..last {
         let Some(name) = names.name(row as u32) else {
             return floors;
         };
-        floors.push(NamedFloor {
-            name,
-            next: told[row],
-        });
+        if !fresh.has(row as u32) {
+            floors.push(NamedFloor {
+                name,
+                next: told[row],
+            });
+        }
     }
     floors
 }
@@ -136,6 +145,7 @@ impl<'k> Rows<'k> {
             told: numbers_of(alloc, floors)?,
             known: numbers_of(alloc, floors)?,
             turn: 0,
+            fresh: Fresh::new(),
         })
     }
 
@@ -165,7 +175,9 @@ impl<'k> Rows<'k> {
         ensures { self.new ≡ spec.after_witness self.old (Some floor) }
     {
         let row = row_of(self.names, floor.name);
-        raise(self.told.as_mut_slice(), row, floor.next);
+        if raise(self.told.as_mut_slice(), row, floor.next) {
+            self.fresh.note(row);
+        }
         raise(self.known.as_mut_slice(), row, floor.next);
     }
 
@@ -178,7 +190,8 @@ impl<'k> Rows<'k> {
         raise_all(self.names, self.known.as_mut_slice(), floors)
     }
 
-    /// Returns the floors that are told next, at most 20, and goes on to those after them.
+    /// Returns the floors that are told next, and goes on to the rows after them. They are those of the next 20 rows that
+    /// aren't fresh.
     pub(crate) fn take_turn(&mut self) -> ArrayVec<NamedFloor, MAX_FLOORS>
         ensures floors { result.items ≡ spec.next_floors self.old }
         ensures rows { self.new ≡ spec.after_turn self.old }
@@ -186,11 +199,19 @@ impl<'k> Rows<'k> {
     {
         let first = self.turn;
         let next = first + MAX_FLOORS;
-        if self.told.len() <= next {
+        let told = self.told.as_slice();
+        if told.len() <= next {
             self.turn = 0;
-            return floors_between(self.names, self.told.as_slice(), first, self.told.len());
+            return floors_between(self.names, told, &self.fresh, first, told.len());
         }
         self.turn = next;
-        floors_between(self.names, self.told.as_slice(), first, next)
+        floors_between(self.names, told, &self.fresh, first, next)
+    }
+
+    /// Notes that the floors of a quiet turn were told. No row is fresh.
+    pub(crate) fn note_telling(&mut self)
+        ensures { self.new ≡ spec.after_telling self.old }
+    {
+        self.fresh.clear();
     }
 }

@@ -3,7 +3,8 @@
 ghost use Rattle.std.specs.Prelude.{◌≡◌, ◌≤◌, length, true, IfOk};
 ghost use Rattle.datagram_port.specs.Port.{IsWithin};
 
-use crate::{FloorPort, Membership, NamedFloor, floors_body, floors_told};
+use crate::{FloorPort, MAX_FLOORS, Membership, NamedFloor, floors_body, floors_told};
+use arrayvec::ArrayVec;
 use datagram_port::{Coming, ListPort, Port, PortEntry, Received, Sender};
 use named_port::Names;
 use named_wire::{Head, Kind, MAX_DATAGRAM_LEN, read_datagram, write_datagram};
@@ -236,7 +237,43 @@ fn single_floors(rt: HostRuntime) -> Result<(), Fail> {
     Ok(())
 }
 
-/// At a quiet turn each other member is told the floors, with those that the node bore witness to.
+/// Returns a Grant of the node to member 3, of the second row's factors up to 7.
+fn grant(alloc: Global) -> Result<Vec<u8>, Fail> {
+    let list = list(alloc)?;
+    let mut body = [0; 49];
+    body[..16].copy_from_slice(&name_at(&list, 1)?.bytes());
+    body[48] = 7;
+    let head = Head {
+        kind: Kind::Grant,
+        from: 2,
+        to: 3,
+        boot: 5,
+    };
+    Ok(write_datagram::<MAX_DATAGRAM_LEN>(&key()?, head, &body).to_vec(alloc)?)
+}
+
+/// Returns the floors that the port below was offered for member 3, at a place of its record.
+fn told_to_3(
+    entries: &[PortEntry],
+    place: usize,
+) -> Result<ArrayVec<NamedFloor, MAX_FLOORS>, Fail> {
+    let Some(PortEntry::Offered { to, bytes }) = entries.get(place) else {
+        return Err(Fail::new("no offer"));
+    };
+    let (read, body) = read_datagram(&key()?, bytes).ok_or_else(|| Fail::new("no datagram"))?;
+    let head = Head {
+        kind: Kind::Floors,
+        from: 2,
+        to: 3,
+        boot: 5,
+    };
+    if *to != Sender::Peer(3) || read != head {
+        return Err(Fail::new("another head"));
+    }
+    floors_told(read.kind, body).ok_or_else(|| Fail::new("no floors"))
+}
+
+/// A floor that the node raised by a Grant is not told at the next quiet turn. It is told at the one after it.
 #[test]
 fn floors_are_told(rt: HostRuntime) -> Result<(), Fail> {
     let alloc = rt.alloc();
@@ -245,44 +282,22 @@ fn floors_are_told(rt: HostRuntime) -> Result<(), Fail> {
     let list = list(alloc)?;
     let floor = Next::new(5).ok_or("a floor")?;
     let mut port = port_over(alloc, &[], &key, &names, &[floor; 3])?;
-    let mut body = [0; 24];
-    body[..16].copy_from_slice(&name_at(&list, 1)?.bytes());
-    body[23] = 8;
-    let own = Head {
-        kind: Kind::Floor,
-        from: 2,
-        to: 3,
-        boot: 5,
-    };
-    assert!(rt;
-        port.send(
-            Sender::Peer(3),
-            &write_datagram::<MAX_DATAGRAM_LEN>(&key, own, &body)
-        )
-    );
+    assert!(rt; port.send(Sender::Peer(3), &grant(alloc)?));
     let mut buffer = [0; 512];
+    assert!(rt; port.receive(&mut buffer) == Received::Quiet);
     assert!(rt; port.receive(&mut buffer) == Received::Quiet);
     let below = port.into_inner();
     let entries = below.record().ok_or("a record")?;
-    assert!(rt; entries.len() == 4);
-    let PortEntry::Offered { to, bytes } = &entries[3] else {
-        return Err(Fail::new("no offer"));
-    };
-    assert!(rt; *to == Sender::Peer(3));
-    let (read, body) = read_datagram(&key, bytes).ok_or_else(|| Fail::new("no datagram"))?;
-    assert!(rt;
-        read == Head {
-            kind: Kind::Floors,
-            ..own
-        }
-    );
-    let floors = floors_told(read.kind, body).ok_or_else(|| Fail::new("no floors"))?;
+    assert!(rt; entries.len() == 7);
     let third = NamedFloor {
         name: name_at(&list, 2)?,
         next: 5,
     };
+    let first = told_to_3(entries, 3)?;
+    assert!(rt; first.len() == 2 && first[0].next == 5 && first[1] == third);
+    let second = told_to_3(entries, 6)?;
     assert!(rt;
-        floors.len() == 3 && floors[0].next == 5 && floors[1].next == 8 && floors[2] == third
+        second.len() == 3 && second[0].next == 5 && second[1].next == 8 && second[2] == third
     );
     Ok(())
 }

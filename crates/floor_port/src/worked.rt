@@ -3,12 +3,12 @@ ghost use Rattle.datagram_port.specs.Port.{Faulted, Offered, Quiet, Received};
 ghost use Rattle.datagram_port.specs.declared.port.Sender.TheVariants.{Client, Peer};
 ghost use Rattle.named_wire.specs.declared.head.Kind.TheVariants.{Ask, Deny, Floor, Floors, Grant};
 ghost use Rattle.vote_wire.specs.Examples.{eight_bytes};
-ghost use Rattle.floor_port.specs.Examples.{ask_upto, bare_setup, body_of_two, book, deny_of_9, floor_of, from_1, head_with, left_of_1, name_with, node_2, node_2_with, one_floor, pace_with, rows_with, two_floors, zeros};
+ghost use Rattle.floor_port.specs.Examples.{ask_upto, bare_setup, body_of_two, book, deny_of_9, floor_of, fresh_rows, from_1, head_with, left_of_1, name_with, node_2, node_2_over, node_2_with, one_floor, pace_with, rows_with, two_floors, zeros};
 ghost use Rattle.floor_port.specs.Floors.{IsBodyOf, floors_at, floors_body, is_body, told_in};
 ghost use Rattle.floor_port.specs.Pace.{after_heard, after_quiet, due, new_pace, round_of};
-ghost use Rattle.floor_port.specs.Packer.{after_event, after_next, after_offer, after_told, body_offers, first_told, floors_datagram, handed_in, new_packer, next_bytes, told_at, told_by, turn_offers};
-ghost use Rattle.floor_port.specs.Promises.{HandsIn, IsOwnFloor, TellsFloors};
-ghost use Rattle.floor_port.specs.Rows.{after_floor, after_floors, after_turn, is_news, new_rows, news, next_floors, turns_of};
+ghost use Rattle.floor_port.specs.Packer.{after_event, after_next, after_offer, after_told, body_of, body_offers, first_told, floors_datagram, handed_in, new_packer, next_bytes, told_at, told_by, turn_offers};
+ghost use Rattle.floor_port.specs.Promises.{HandsIn, IsNotFresh, IsOwnFloor, TellsFloors};
+ghost use Rattle.floor_port.specs.Rows.{after_floor, after_floors, after_news, after_telling, after_turn, after_witness, is_fresh, is_news, new_rows, news, next_floors, turns_of, with_fresh};
 ghost use Rattle.floor_port.specs.Runs.{Came, IsAfter, Left, Offer, at_start, below_events, handed_events, may_call, may_make};
 ghost use Rattle.floor_port.specs.Setup.{telling_setup};
 ghost use Rattle.floor_port.specs.Witness.{witness_of};
@@ -81,6 +81,36 @@ pub fn rows_are_worked()
     ensures all { map (λ rows. turns_of (new_rows [] (replicate rows 1))) (0 ∷ 1 ∷ 20 ∷ 21 ∷ []) ≡ 0 ∷ 1 ∷ 1 ∷ 2 ∷ [] }
 {}
 
+/// Worked cases. The rows that are fresh, and the floors of the others that are told.
+pub fn fresh_rows_are_worked()
+    ensures is { map (is_fresh (0 ∷ 2 ∷ [])) (0 ∷ 1 ∷ 2 ∷ 3 ∷ []) ≡ true ∷ false ∷ true ∷ false ∷ [] }
+    ensures none { is_fresh [] 0 ≡ false }
+    ensures more { map (with_fresh (0 ∷ 2 ∷ [])) (Some 1 ∷ Some 2 ∷ None ∷ [])
+        ≡ (0 ∷ 2 ∷ 1 ∷ []) ∷ (0 ∷ 2 ∷ []) ∷ (0 ∷ 2 ∷ []) ∷ [] }
+    ensures room_for_64 { with_fresh (replicate 63 9) (Some 1) ≡ replicate 63 9 ++ 1 ∷ [] }
+    ensures full { with_fresh (replicate 64 9) (Some 1) ≡ replicate 64 9 }
+    ensures raised { (after_witness (fresh_rows []) (Some (floor_of 0xbb 7))).fresh ≡ 1 ∷ [] }
+    ensures not_raised { (after_witness (fresh_rows []) (Some (floor_of 0xbb 6))).fresh ≡ [] }
+    ensures another_name { (after_witness (fresh_rows []) (Some (floor_of 0xdd 9))).fresh ≡ [] }
+    ensures no_witness { after_witness (fresh_rows (2 ∷ [])) None ≡ fresh_rows (2 ∷ []) }
+    ensures known_but_raised { (after_witness (fresh_rows []) (Some (floor_of 0xbb 8))).fresh ≡ 1 ∷ [] }
+    ensures twice { (after_witness (fresh_rows (1 ∷ [])) (Some (floor_of 0xbb 9))).fresh ≡ 1 ∷ [] }
+    ensures news { (after_news (fresh_rows (2 ∷ [])) (floor_of 0xbb 9 ∷ [])).fresh ≡ 2 ∷ [] }
+    ensures others { next_floors (fresh_rows (1 ∷ [])) ≡ floor_of 0xaa 5 ∷ floor_of 0xcc 7 ∷ [] }
+    ensures others_from { next_floors (record (fresh_rows (1 ∷ [])) { turn = 1 }) ≡ floor_of 0xcc 7 ∷ [] }
+    ensures all { next_floors (fresh_rows (2 ∷ 0 ∷ 1 ∷ [])) ≡ [] }
+    ensures twenty { next_floors (record (new_rows (replicate 20 (name_with 1)) (1 ∷ 1 ∷ 2 ∷ replicate 17 1)) {
+      fresh = 0 ∷ 7 ∷ 19 ∷ [];
+    })
+        ≡ floor_of 1 1 ∷ floor_of 1 2 ∷ replicate 15 (floor_of 1 1) }
+    ensures sixty_four { next_floors (after_witness (fresh_rows (replicate 63 9)) (Some (floor_of 0xbb 7)))
+        ≡ floor_of 0xaa 5 ∷ floor_of 0xcc 7 ∷ [] }
+    ensures sixty_five { next_floors (after_witness (fresh_rows (replicate 64 9)) (Some (floor_of 0xbb 7)))
+        ≡ floor_of 0xaa 5 ∷ floor_of 0xbb 7 ∷ floor_of 0xcc 7 ∷ [] }
+    ensures turn { (after_turn (fresh_rows (1 ∷ []))).fresh ≡ 1 ∷ [] }
+    ensures told { after_telling (fresh_rows (1 ∷ [])) ≡ fresh_rows [] }
+{}
+
 /// Worked cases. Fast rounds, and the datagrams that are due.
 pub fn paces_are_worked()
     ensures rounds { map round_of (0 ∷ 199 ∷ 200 ∷ 10000 ∷ []) ≡ 1 ∷ 1 ∷ 2 ∷ 51 ∷ [] }
@@ -143,7 +173,7 @@ pub fn packers_are_worked()
         ∷ Offered (Peer 1) [] ∷ [])
         ≡ replicate 6 node_2 }
     ensures witness { after_offer node_2 (Peer 1) deny_of_9
-        ≡ record node_2 { rows = rows_with (9 ∷ 5 ∷ 5 ∷ []) (9 ∷ 5 ∷ 5 ∷ []) 0 } }
+        ≡ record node_2 { rows = record (rows_with (9 ∷ 5 ∷ 5 ∷ []) (9 ∷ 5 ∷ 5 ∷ []) 0) { fresh = 0 ∷ [] } } }
     ensures no_witness { after_offer node_2 (Peer 1) two_floors ≡ node_2 }
     ensures answer { after_offer node_2 (Client 1) deny_of_9 ≡ node_2 }
 {}
@@ -154,7 +184,19 @@ pub fn offers_are_worked()
         ≡ Offered (Peer 1) (floors_datagram node_2 1 body_of_two)
         ∷ Offered (Peer 3) (floors_datagram node_2 3 body_of_two) ∷ [] }
     ensures quiet { told_at node_2 Quiet ≡ body_offers node_2 (floors_body (next_floors node_2.rows)) 1 3 }
+    ensures fresh { told_at (node_2_over (fresh_rows (1 ∷ []))) Quiet
+        ≡ body_offers node_2 (floors_body (floor_of 0xaa 5 ∷ floor_of 0xcc 7 ∷ [])) 1 3 }
+    ensures fresh_again { told_at (after_event (node_2_over (fresh_rows (1 ∷ []))) Quiet) Quiet
+        ≡ body_offers node_2 (floors_body (floor_of 0xaa 5 ∷ floor_of 0xbb 6 ∷ floor_of 0xcc 7 ∷ [])) 1 3 }
+    ensures all_fresh { told_at (node_2_over (fresh_rows (0 ∷ 1 ∷ 2 ∷ []))) Quiet ≡ [] }
+    ensures voted { told_at (after_offer node_2 (Peer 1) deny_of_9) Quiet
+        ≡ body_offers node_2 (floors_body (floor_of 0xbb 5 ∷ floor_of 0xcc 5 ∷ [])) 1 3 }
+    ensures voted_before { told_at (after_event (after_offer node_2 (Peer 1) deny_of_9) Quiet) Quiet
+        ≡ body_offers node_2 (floors_body (floor_of 0xaa 9 ∷ floor_of 0xbb 5 ∷ floor_of 0xcc 5 ∷ [])) 1 3 }
+    ensures bodies { map body_of ([] ∷ (floor_of 0xaa 6 ∷ floor_of 0xcc 9 ∷ []) ∷ []) ≡ None ∷ Some body_of_two ∷ [] }
     ensures quiet_turn { after_event node_2 Quiet ≡ record node_2 { pace = pace_with 0 0 } }
+    ensures quiet_turn_after_votes { after_event (node_2_over (fresh_rows (1 ∷ []))) Quiet
+        ≡ record (node_2_over (fresh_rows [])) { pace = pace_with 0 0 } }
     ensures no_rows { told_at (record node_2 { rows = new_rows [] [] }) Quiet ≡ [] }
     ensures turns { turn_offers node_2 (new_rows (replicate 21 (name_with 1)) (replicate 21 2)) 2
         ≡ body_offers node_2 (floors_body (replicate 20 (floor_of 1 2))) 1 3
@@ -201,6 +243,9 @@ pub fn promises_can_be_broken()
     ensures own { IsOwnFloor book (5 ∷ 6 ∷ 7 ∷ []) [] (floor_of 0xbb 6) }
     ensures another_row { IsOwnFloor book (5 ∷ 6 ∷ 7 ∷ []) [] (floor_of 0xbb 5) → ⊥ }
     ensures bodies { IsBodyOf [] (0 ∷ []) → ⊥ }
+    ensures not_fresh { IsNotFresh (fresh_rows (1 ∷ [])) (floor_of 0xcc 7) }
+    ensures fresh { IsNotFresh (fresh_rows (1 ∷ [])) (floor_of 0xbb 6) → ⊥ }
+    ensures another_floor { IsNotFresh (fresh_rows []) (floor_of 0xbb 7) → ⊥ }
 {}
 
 /// Worked cases. The setup of a port that tells floors has what it packs by, and the floors at its start.

@@ -8,8 +8,29 @@ returns-clause-members c = refl
 pub returns-clause-quiet : goal.returns-clause-quiet
 returns-clause-quiet c = refl
 
+pub returns-clause-fresh : goal.returns-clause-fresh
+returns-clause-fresh c = refl
+
+pub returns-clause-fresh_again : goal.returns-clause-fresh_again
+returns-clause-fresh_again c = refl
+
+pub returns-clause-all_fresh : goal.returns-clause-all_fresh
+returns-clause-all_fresh c = refl
+
+pub returns-clause-voted : goal.returns-clause-voted
+returns-clause-voted c = refl
+
+pub returns-clause-voted_before : goal.returns-clause-voted_before
+returns-clause-voted_before c = refl
+
+pub returns-clause-bodies : goal.returns-clause-bodies
+returns-clause-bodies c = refl
+
 pub returns-clause-quiet_turn : goal.returns-clause-quiet_turn
 returns-clause-quiet_turn c = refl
+
+pub returns-clause-quiet_turn_after_votes : goal.returns-clause-quiet_turn_after_votes
+returns-clause-quiet_turn_after_votes c = refl
 
 pub returns-clause-no_rows : goal.returns-clause-no_rows
 returns-clause-no_rows c = refl

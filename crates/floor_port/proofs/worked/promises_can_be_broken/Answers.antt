@@ -68,3 +68,6 @@ returns-clause-not_told c = λ h. elim h [
     | inr floor ↦ untold floor.head floor.floor floor.is_told
   ]
 ]
+
+pub returns-clause-not_fresh : goal.returns-clause-not_fresh
+returns-clause-not_fresh c = record { row = 2; name_is = refl; next_is = refl; is_other = refl }
