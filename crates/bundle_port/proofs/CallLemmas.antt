@@ -1,7 +1,7 @@
 -- A port and its bundler after one more call.
 use Rattle.std.proofs.Common.{◌≡◌, ◌≢◌, ℕ, Bool, true, eqb, List, [], ◌∷◌, ◌++◌, length, Option, Some, refl, sym, ap, subst, ◌∙◌, append_assoc, append-nil}
 use Rattle.std.proofs.lemmas.Bool.{and_parts}
-use Rattle.std.specs.Prelude.{◌&&◌, IfSome}
+use Rattle.std.specs.Prelude.{◌&&◌}
 use Rattle.datagram_port.specs.Port.{Grows, PortEvent, event_of_receive}
 use Rattle.datagram_port.specs.declared.port.Received.{Received as Receive}
 use Rattle.datagram_port.specs.declared.port.Received.TheVariants.{Datagram, Quiet as QuietReceive, Fault}
@@ -79,25 +79,6 @@ told_call below b calls more call event a noted event_is =
     ∙ ap (λ (x : BundlerRecord). handed_events new_bundler calls ++ handed x call ∷ []) a.bundler_is
     ∙ sym (handed_more new_bundler calls call)
     ∙ ap (handed_events new_bundler) (sym noted))
-
--- nothing was queued
-pub after_nothing : (old new : Option (List PortEvent)) (b : BundlerRecord) (calls : List Call) → IsAfter old b calls → Grows old new [] → IsAfter new b calls
-after_nothing old new b calls a grows = record {
-  is_made = a.is_made;
-  bundler_is = a.bundler_is;
-  below_is = λ now e.
-      let g = grown old new [] now grows e in
-      sym g.2 ∙ append-nil g.0 ∙ a.below_is g.0 g.1;
-}
-
--- a port at its start
-pub after_none : (below : Option (List PortEvent)) (b : BundlerRecord) (calls : List Call) → IfSome below (λ events. events ≡ []) → b ≡ new_bundler → calls ≡ [] → IsAfter below b calls
-after_none below b calls fresh is none =
-    subst (IsAfter below b) (sym none) (subst (λ (x : BundlerRecord). IsAfter below x []) (sym is) (record {
-      is_made = refl;
-      bundler_is = refl;
-      below_is = λ events e. subst (λ (o : Option (List PortEvent)). IfSome o (λ l. l ≡ [])) e fresh;
-    }))
 
 -- ---- a receive of the port below
 

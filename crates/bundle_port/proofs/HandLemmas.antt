@@ -6,7 +6,7 @@ use Rattle.datagram_port.specs.Port.{PortEvent, Received, Quiet, Faulted, Offere
 use Rattle.datagram_port.specs.declared.port.Sender.{Sender}
 use Rattle.datagram_port.specs.declared.port.Sender.TheVariants.{Client, Peer}
 use Rattle.bundle_port.specs.Bundle.{parts_at}
-use Rattle.bundle_port.specs.Bundler.{BundlerRecord, LeftRecord, after_datagram, after_flush, after_offer, first_or_itself, first_part, handed_in, is_member, new_bundler, rows_after}
+use Rattle.bundle_port.specs.Bundler.{BundlerRecord, LeftRecord, after_datagram, after_flush, after_offer, first_or_itself, first_part, handed_in, is_member, lanes_after, new_bundler}
 use Rattle.bundle_port.specs.Promises.{Among, Came, HandsIn, IsPartHanded}
 use Rattle.bundle_port.specs.Runs.{Call, Left, Offer, Polls, Waits, after, handed, handed_events, may_call, may_make}
 use Rattle.bundle_port.proofs.WaitingLemmas.{have_parts}
@@ -76,7 +76,7 @@ left_polls b all (Offered to bytes) came left = left
 pub left_offer : (b : BundlerRecord) (to : Sender) (bytes : List ℕ) → (after_offer b to bytes).left ≡ b.left
 left_offer b (Peer member) bytes = go (is_member member)
   where
-    go : (is : Bool) → (cond is (record b { waiting = rows_after b.waiting member bytes }) b).left ≡ b.left
+    go : (is : Bool) → (cond is (record b { lanes = lanes_after b.lanes member bytes }) b).left ≡ b.left
     go true = refl
     go false = refl
 left_offer b (Client number) bytes = refl

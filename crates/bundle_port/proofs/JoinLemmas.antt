@@ -6,11 +6,11 @@ use Rattle.datagram_port.specs.Port.{PortEvent, Received, Quiet, Faulted, Offere
 use Rattle.datagram_port.specs.declared.port.Sender.{Sender}
 use Rattle.datagram_port.specs.declared.port.Sender.TheVariants.{Client, Peer}
 use Rattle.bundle_port.specs.Bundle.{bundle_bytes, is_part, parts_at}
-use Rattle.bundle_port.specs.Bundler.{BundlerRecord, flush_offers, has_room, is_member, member_offers, new_bundler, offers_at, offers_from, parts_offer, room_offers}
+use Rattle.bundle_port.specs.Bundler.{BundlerRecord, LaneRecord, flush_offers, goes_at_once, has_room, is_member, lane_offers, member_offers, new_bundler, new_lane, offers_at, offers_from, parts_offer, room_offers}
 use Rattle.bundle_port.specs.Promises.{Among, JoinsOffers}
 use Rattle.bundle_port.specs.Runs.{Call, Left, Offer, Polls, Waits, after, below, below_events, may_call, may_make}
 use Rattle.bundle_port.proofs.FormatLemmas.{read_parts}
-use Rattle.bundle_port.proofs.RowLemmas.{HasRows, IsRow, row_for, rows_at_start, rows_one}
+use Rattle.bundle_port.proofs.LaneLemmas.{HasLanes, IsLane, IsRow, lane_for, lanes_at_start, lanes_one}
 
 -- an offer of the node, or a bundle of them
 abbrev IsOwn : List Call → Sender → List ℕ → Type 0
@@ -50,21 +50,21 @@ own_parts all member (part ∷ next ∷ parts) row to bytes (inl is) =
     })
 own_parts all member (part ∷ next ∷ parts) row to bytes (inr h) = absurd h
 
-own_rows : (all : List Call) (rows : List (List (List ℕ))) (first : ℕ) → ((k : ℕ) → IsRow all (first + k) (get_or rows k [])) → (to : Sender) (bytes : List ℕ)
-    → Among (offers_from first rows) (offered to bytes) → IsOwn all to bytes
-own_rows all [] first row to bytes h = absurd h
-own_rows all (parts ∷ rows) first row to bytes h =
-    go (among_either (parts_offer first parts) (offers_from (first + 1) rows) (offered to bytes) h) (own_rows all rows (first + 1) others to bytes)
+own_lanes : (all : List Call) (lanes : List LaneRecord) (first : ℕ) → ((k : ℕ) → IsLane all (first + k) (get_or lanes k new_lane)) → (to : Sender) (bytes : List ℕ)
+    → Among (offers_from first lanes) (offered to bytes) → IsOwn all to bytes
+own_lanes all [] first are to bytes h = absurd h
+own_lanes all (lane ∷ lanes) first are to bytes h =
+    go (among_either (parts_offer first lane.parts) (offers_from (first + 1) lanes) (offered to bytes) h) (own_lanes all lanes (first + 1) others to bytes)
   where
-    others : (k : ℕ) → IsRow all (first + 1 + k) (get_or rows k [])
-    others k = let next : first + suc k ≡ first + 1 + k = omega arith in subst (λ (m : ℕ). IsRow all m (get_or rows k [])) next (row (suc k))
+    others : (k : ℕ) → IsLane all (first + 1 + k) (get_or lanes k new_lane)
+    others k = let next : first + suc k ≡ first + 1 + k = omega arith in subst (λ (m : ℕ). IsLane all m (get_or lanes k new_lane)) next (are (suc k))
 
-    here : IsRow all first parts
-    here = let same : first + 0 ≡ first = omega arith in subst (λ (m : ℕ). IsRow all m parts) same (row 0)
+    here : IsRow all first lane.parts
+    here = let same : first + 0 ≡ first = omega arith in subst (λ (m : ℕ). IsRow all m lane.parts) same (are 0).row
 
-    go : Among (parts_offer first parts) (offered to bytes) ⊎ Among (offers_from (first + 1) rows) (offered to bytes) → (Among (offers_from (first + 1) rows) (offered to bytes) → IsOwn all to bytes)
+    go : Among (parts_offer first lane.parts) (offered to bytes) ⊎ Among (offers_from (first + 1) lanes) (offered to bytes) → (Among (offers_from (first + 1) lanes) (offered to bytes) → IsOwn all to bytes)
         → IsOwn all to bytes
-    go (inl a) rest = own_parts all first parts here to bytes a
+    go (inl a) rest = own_parts all first lane.parts here to bytes a
     go (inr a) rest = rest a
 
 -- ---- an offer of the node
@@ -92,14 +92,22 @@ own_member all member parts datagram row made to bytes = by_part (is_part datagr
     by_part true h = by_room (has_room parts datagram) h
     by_part false h = either (among_either (parts_offer member parts) (offered (Peer member) datagram ∷ []) (offered to bytes) h)
 
-own_offer : (all : List Call) (b : BundlerRecord) (own : Sender) (datagram : List ℕ) → HasRows all b → Among all (Offer own datagram) → (to : Sender) (bytes : List ℕ)
+own_lane : (all : List Call) (member : ℕ) (lane : LaneRecord) (datagram : List ℕ) → IsLane all member lane → Among all (Offer (Peer member) datagram) → (to : Sender) (bytes : List ℕ)
+    → Among (lane_offers member lane datagram) (offered to bytes) → IsOwn all to bytes
+own_lane all member lane datagram is made to bytes = go (goes_at_once lane datagram)
+  where
+    go : (at_once : Bool) → Among (cond at_once (offered (Peer member) datagram ∷ []) (member_offers member lane.parts datagram)) (offered to bytes) → IsOwn all to bytes
+    go true h = own_itself all (Peer member) datagram made to bytes h
+    go false h = own_member all member lane.parts datagram is.row made to bytes h
+
+own_offer : (all : List Call) (b : BundlerRecord) (own : Sender) (datagram : List ℕ) → HasLanes all b → Among all (Offer own datagram) → (to : Sender) (bytes : List ℕ)
     → Among (offers_at b own datagram) (offered to bytes) → IsOwn all to bytes
 own_offer all b (Client number) datagram has made to bytes h = own_itself all (Client number) datagram made to bytes h
 own_offer all b (Peer member) datagram has made to bytes h = go (is_member member) refl h
   where
     go : (is : Bool) → is_member member ≡ is
-        → Among (cond is (member_offers member (get_or b.waiting (member - 1) []) datagram) (offered (Peer member) datagram ∷ [])) (offered to bytes) → IsOwn all to bytes
-    go true is h = own_member all member (get_or b.waiting (member - 1) []) datagram (row_for all b member is has) made to bytes h
+        → Among (cond is (lane_offers member (get_or b.lanes (member - 1) new_lane) datagram) (offered (Peer member) datagram ∷ [])) (offered to bytes) → IsOwn all to bytes
+    go true is h = own_lane all member (get_or b.lanes (member - 1) new_lane) datagram (lane_for all b member is has) made to bytes h
     go false is h = own_itself all (Peer member) datagram made to bytes h
 
 -- ---- one call
@@ -113,11 +121,11 @@ no_offer b (Offered own datagram) to bytes (inl may) (inl is) = true≢false (sy
 no_offer b (Offered own datagram) to bytes (inr may) (inl is) = true≢false (sym may)
 no_offer b event to bytes may (inr h) = h
 
-own_one : (all : List Call) (b : BundlerRecord) (call : Call) → may_call b call ≡ true → Among all call → HasRows all b → (to : Sender) (bytes : List ℕ) → Among (below b call) (offered to bytes) → IsOwn all to bytes
+own_one : (all : List Call) (b : BundlerRecord) (call : Call) → may_call b call ≡ true → Among all call → HasLanes all b → (to : Sender) (bytes : List ℕ) → Among (below b call) (offered to bytes) → IsOwn all to bytes
 own_one all b (Waits event) may made has to bytes h = go (among_either (flush_offers b) (event ∷ []) (offered to bytes) h)
   where
     go : Among (flush_offers b) (offered to bytes) ⊎ Among (event ∷ []) (offered to bytes) → IsOwn all to bytes
-    go (inl a) = own_rows all b.waiting 1 has.row to bytes a
+    go (inl a) = own_lanes all b.lanes 1 has.lane to bytes a
     go (inr a) = absurd (no_offer b event to bytes (inl may) a)
 own_one all b (Polls event) may made has to bytes h = absurd (no_offer b event to bytes (inr may) h)
 own_one all b Left may made has to bytes h = absurd h
@@ -125,7 +133,7 @@ own_one all b (Offer own datagram) may made has to bytes h = own_offer all b own
 
 -- ---- all calls
 
-own_over : (all : List Call) (b : BundlerRecord) (calls : List Call) → ((call : Call) → Among calls call → Among all call) → may_make b calls ≡ true → HasRows all b
+own_over : (all : List Call) (b : BundlerRecord) (calls : List Call) → ((call : Call) → Among calls call → Among all call) → may_make b calls ≡ true → HasLanes all b
     → (to : Sender) (bytes : List ℕ) → Among (below_events b calls) (offered to bytes) → IsOwn all to bytes
 own_over all b [] made may has to bytes h = absurd h
 own_over all b (call ∷ calls) made may has to bytes h =
@@ -133,7 +141,7 @@ own_over all b (call ∷ calls) made may has to bytes h =
     let both = and_parts (may_call b call) (may_make u calls) may in
     let one = made call (inl refl) in
     go (among_either (below b call) (below_events u calls) (offered to bytes) h) (own_one all b call both.0 one has to bytes)
-    (own_over all u calls (λ c a. made c (inr a)) both.1 (rows_one all b call one has) to bytes)
+    (own_over all u calls (λ c a. made c (inr a)) both.1 (lanes_one all b call one has) to bytes)
   where
     go : Among (below b call) (offered to bytes) ⊎ Among (below_events (after b call) calls) (offered to bytes) → (Among (below b call) (offered to bytes) → IsOwn all to bytes)
         → (Among (below_events (after b call) calls) (offered to bytes) → IsOwn all to bytes) → IsOwn all to bytes
@@ -142,4 +150,4 @@ own_over all b (call ∷ calls) made may has to bytes h =
 
 pub join_law : (calls : List Call) (to : Sender) (bytes : List ℕ) → may_make new_bundler calls ≡ true → Among (below_events new_bundler calls) (Offered to bytes)
     → Among calls (Offer to bytes) ⊎ JoinsOffers calls to bytes
-join_law calls to bytes may h = own_over calls new_bundler calls (λ call a. a) may (rows_at_start calls) to bytes h
+join_law calls to bytes may h = own_over calls new_bundler calls (λ call a. a) may (lanes_at_start calls) to bytes h

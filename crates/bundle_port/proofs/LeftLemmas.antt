@@ -6,7 +6,7 @@ use Rattle.datagram_port.specs.Port.{PortEvent, Received, Quiet, Faulted, Offere
 use Rattle.datagram_port.specs.declared.port.Sender.{Sender}
 use Rattle.datagram_port.specs.declared.port.Sender.TheVariants.{Client, Peer}
 use Rattle.bundle_port.specs.Bundle.{is_part, parts_at}
-use Rattle.bundle_port.specs.Bundler.{BundlerRecord, LeftRecord, after_datagram, after_event, after_flush, datagram_of, first_or_itself, first_part, flush_offers, handed_in, has_room, is_member, member_offers, new_bundler, offer_of, offers_at, offers_from, parts_offer, room_offers}
+use Rattle.bundle_port.specs.Bundler.{BundlerRecord, LaneRecord, LeftRecord, after_datagram, after_event, after_flush, datagram_of, first_or_itself, first_part, flush_offers, goes_at_once, handed_in, has_room, is_member, lane_offers, member_offers, new_bundler, new_lane, offer_of, offers_at, offers_from, parts_offer, room_offers}
 use Rattle.bundle_port.specs.Promises.{all_received, datagram_from, datagrams_from, left_from, parts_received}
 use Rattle.bundle_port.specs.Runs.{Call, Left, Offer, Polls, Waits, after, after_calls, below, below_events, handed, handed_events, is_none_left, may_call, may_make}
 use Rattle.bundle_port.proofs.HandLemmas.{have_one, left_offer}
@@ -26,12 +26,12 @@ none_of_offer member number (Some bytes) = refl
 none_of_parts : (member number : ℕ) (parts : List (List ℕ)) → all_received member (parts_offer number parts) ≡ []
 none_of_parts member number parts = none_of_offer member number (datagram_of parts)
 
-none_of_rows : (member first : ℕ) (rows : List (List (List ℕ))) → all_received member (offers_from first rows) ≡ []
-none_of_rows member first [] = refl
-none_of_rows member first (parts ∷ rows) =
-    received_append member (parts_offer first parts) (offers_from (first + 1) rows)
-    ∙ ap (λ (l : List (List ℕ)). l ++ all_received member (offers_from (first + 1) rows)) (none_of_parts member first parts)
-    ∙ none_of_rows member (first + 1) rows
+none_of_lanes : (member first : ℕ) (lanes : List LaneRecord) → all_received member (offers_from first lanes) ≡ []
+none_of_lanes member first [] = refl
+none_of_lanes member first (lane ∷ lanes) =
+    received_append member (parts_offer first lane.parts) (offers_from (first + 1) lanes)
+    ∙ ap (λ (l : List (List ℕ)). l ++ all_received member (offers_from (first + 1) lanes)) (none_of_parts member first lane.parts)
+    ∙ none_of_lanes member (first + 1) lanes
 
 none_of_member : (member number : ℕ) (parts : List (List ℕ)) (bytes : List ℕ) → all_received member (member_offers number parts bytes) ≡ []
 none_of_member member number parts bytes = by_part (is_part bytes)
@@ -46,12 +46,19 @@ none_of_member member number parts bytes = by_part (is_part bytes)
         received_append member (parts_offer number parts) (Offered (Peer number) bytes ∷ [])
         ∙ ap (λ (l : List (List ℕ)). l ++ []) (none_of_parts member number parts)
 
+none_of_lane : (member number : ℕ) (lane : LaneRecord) (bytes : List ℕ) → all_received member (lane_offers number lane bytes) ≡ []
+none_of_lane member number lane bytes = go (goes_at_once lane bytes)
+  where
+    go : (at_once : Bool) → all_received member (cond at_once (Offered (Peer number) bytes ∷ []) (member_offers number lane.parts bytes)) ≡ []
+    go true = refl
+    go false = none_of_member member number lane.parts bytes
+
 none_of_offers : (member : ℕ) (b : BundlerRecord) (to : Sender) (bytes : List ℕ) → all_received member (offers_at b to bytes) ≡ []
 none_of_offers member b (Client number) bytes = refl
 none_of_offers member b (Peer number) bytes = go (is_member number)
   where
-    go : (is : Bool) → all_received member (cond is (member_offers number (slice_index_or b.waiting (number - 1) []) bytes) (Offered (Peer number) bytes ∷ [])) ≡ []
-    go true = none_of_member member number (slice_index_or b.waiting (number - 1) []) bytes
+    go : (is : Bool) → all_received member (cond is (lane_offers number (slice_index_or b.lanes (number - 1) new_lane) bytes) (Offered (Peer number) bytes ∷ [])) ≡ []
+    go true = none_of_lane member number (slice_index_or b.lanes (number - 1) new_lane) bytes
     go false = refl
 
 -- ---- one call
@@ -120,7 +127,7 @@ handed_one member b (Waits event) may =
     handed_event member (after_flush b) event before
     ∙ sym (ap (λ (l : List (List ℕ)). l ++ all_received member (flush_offers b ++ event ∷ [])) before
     ∙ received_append member (flush_offers b) (event ∷ [])
-    ∙ ap (λ (l : List (List ℕ)). l ++ (parts_received member event ++ [])) (none_of_rows member 1 b.waiting))
+    ∙ ap (λ (l : List (List ℕ)). l ++ (parts_received member event ++ [])) (none_of_lanes member 1 b.lanes))
 handed_one member b (Polls event) may =
     let before = nothing_left b member (none_at_polls b event may) in
     handed_event member b event before ∙ sym (ap (λ (l : List (List ℕ)). l ++ (parts_received member event ++ [])) before)

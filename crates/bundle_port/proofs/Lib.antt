@@ -5,6 +5,6 @@ pub mod CallLemmas
 pub mod FormatLemmas
 pub mod HandLemmas
 pub mod LeftLemmas
-pub mod RowLemmas
+pub mod LaneLemmas
 pub mod JoinLemmas
 pub mod SentLemmas

@@ -3,10 +3,10 @@ use Rattle.std.proofs.Common.{◌≡◌, ℕ, zero, suc, ◌+◌, ◌<◌, ◌�
 use Rattle.std.specs.Prelude.{slice_set}
 use Rattle.std.proofs.lemmas.List.{take_more}
 use Rattle.datagram_port.specs.Port.{Grows, PortEvent}
-use Rattle.bundle_port.specs.Bundler.{offers_from, parts_offer}
+use Rattle.bundle_port.specs.Bundler.{LaneRecord, after_wait, new_lane, offers_from, parts_offer}
 
-abbrev Rows : Type 0
-Rows = List (List (List ℕ))
+abbrev Lanes : Type 0
+Lanes = List LaneRecord
 
 abbrev present : {A : Type 0} → A → Option A
 present x = Some x
@@ -35,71 +35,76 @@ pub grows_none : (events : Option (List PortEvent)) → Grows events events []
 grows_none None = tt
 grows_none (Some events) = ap present (append-nil events)
 
--- ---- rows
+-- ---- lanes
 
--- rows of which a number of the first ones are emptied
-abbrev pub emptied : ℕ → List (List (List ℕ)) → List (List (List ℕ))
-emptied zero rows = rows
-emptied (suc place) [] = []
-emptied (suc place) (row ∷ rows) = [] ∷ emptied place rows
+-- lanes of which a number of the first ones are after a wait
+abbrev pub waited : ℕ → List LaneRecord → List LaneRecord
+waited zero lanes = lanes
+waited (suc place) [] = []
+waited (suc place) (lane ∷ lanes) = after_wait lane ∷ waited place lanes
 
-pub length_emptied : (place : ℕ) (rows : List (List (List ℕ))) → length (emptied place rows) ≡ length rows
-length_emptied zero rows = refl
-length_emptied (suc place) [] = refl
-length_emptied (suc place) (row ∷ rows) = ap suc (length_emptied place rows)
+pub length_waited : (place : ℕ) (lanes : List LaneRecord) → length (waited place lanes) ≡ length lanes
+length_waited zero lanes = refl
+length_waited (suc place) [] = refl
+length_waited (suc place) (lane ∷ lanes) = ap suc (length_waited place lanes)
 
--- the next row is as it was
-pub row_of_emptied : (place : ℕ) (rows : List (List (List ℕ))) → get_or (emptied place rows) place [] ≡ get_or rows place []
-row_of_emptied zero rows = refl
-row_of_emptied (suc place) [] = refl
-row_of_emptied (suc place) (row ∷ rows) = row_of_emptied place rows
+-- the next lane is as it was
+lane_of_waited : (place : ℕ) (lanes : List LaneRecord) → get_or (waited place lanes) place new_lane ≡ get_or lanes place new_lane
+lane_of_waited zero lanes = refl
+lane_of_waited (suc place) [] = refl
+lane_of_waited (suc place) (lane ∷ lanes) = lane_of_waited place lanes
 
-emptied_next : (place : ℕ) (rows : List (List (List ℕ))) → slice_set (emptied place rows) place [] ≡ emptied (suc place) rows
-emptied_next zero [] = refl
-emptied_next zero (row ∷ rows) = refl
-emptied_next (suc place) [] = refl
-emptied_next (suc place) (row ∷ rows) = ap (λ (l : Rows). [] ∷ l) (emptied_next place rows)
+waited_next : (place : ℕ) (lanes : List LaneRecord) → slice_set (waited place lanes) place (after_wait (get_or lanes place new_lane)) ≡ waited (suc place) lanes
+waited_next zero [] = refl
+waited_next zero (lane ∷ lanes) = refl
+waited_next (suc place) [] = refl
+waited_next (suc place) (lane ∷ lanes) = ap (λ (l : Lanes). after_wait lane ∷ l) (waited_next place lanes)
 
--- one more row is emptied
-pub emptied_more : (place : ℕ) (now rows : List (List (List ℕ))) → now ≡ emptied place rows → slice_set now place [] ≡ emptied (place + 1) rows
-emptied_more place now rows is =
+-- a wait of one more lane
+pub waited_more : (place : ℕ) (now lanes : List LaneRecord) (lane new : LaneRecord) → now ≡ waited place lanes → lane ≡ get_or now place new_lane → new ≡ after_wait lane
+    → slice_set now place new ≡ waited (place + 1) lanes
+waited_more place now lanes lane new is at after =
     let next : suc place ≡ place + 1 = omega arith in
-    ap (λ (l : Rows). slice_set l place []) is ∙ emptied_next place rows ∙ ap (λ (n : ℕ). emptied n rows) next
+    let lane_is : lane ≡ get_or lanes place new_lane = at ∙ ap (λ (l : Lanes). get_or l place new_lane) is ∙ lane_of_waited place lanes in
+    ap (λ (l : Lanes). slice_set l place new) is
+    ∙ ap (slice_set (waited place lanes) place) (after ∙ ap after_wait lane_is)
+    ∙ waited_next place lanes
+    ∙ ap (λ (n : ℕ). waited n lanes) next
 
--- all rows are emptied
-pub emptied_all : (place : ℕ) (rows : List (List (List ℕ))) → length rows ≤ place → emptied place rows ≡ map (λ (_ : List (List ℕ)). []) rows
-emptied_all zero [] h = refl
-emptied_all zero (row ∷ rows) h = absurd (omega arith)
-emptied_all (suc place) [] h = refl
-emptied_all (suc place) (row ∷ rows) h = ap (λ (l : Rows). [] ∷ l) (emptied_all place rows (omega arith))
+-- a wait of all lanes
+pub waited_all : (place : ℕ) (lanes : List LaneRecord) → length lanes ≤ place → waited place lanes ≡ map after_wait lanes
+waited_all zero [] h = refl
+waited_all zero (lane ∷ lanes) h = absurd (omega arith)
+waited_all (suc place) [] h = refl
+waited_all (suc place) (lane ∷ lanes) h = ap (λ (l : Lanes). after_wait lane ∷ l) (waited_all place lanes (omega arith))
 
 -- ---- offers
 
-offers_more : (member : ℕ) (rows : List (List (List ℕ))) (row : List (List ℕ)) → offers_from member (rows ++ row ∷ []) ≡ offers_from member rows ++ parts_offer (member + length rows) row
-offers_more member [] row =
+offers_more : (member : ℕ) (lanes : List LaneRecord) (lane : LaneRecord) → offers_from member (lanes ++ lane ∷ []) ≡ offers_from member lanes ++ parts_offer (member + length lanes) lane.parts
+offers_more member [] lane =
     let same : member ≡ member + 0 = omega arith in
-    append-nil (parts_offer member row) ∙ ap (λ (n : ℕ). parts_offer n row) same
-offers_more member (first ∷ rows) row =
-    let next : member + 1 + length rows ≡ member + suc (length rows) = omega arith in
-    ap (λ (l : List PortEvent). parts_offer member first ++ l) (offers_more (member + 1) rows row)
-    ∙ ap (λ (n : ℕ). parts_offer member first ++ (offers_from (member + 1) rows ++ parts_offer n row)) next
-    ∙ sym (append_assoc (parts_offer member first) (offers_from (member + 1) rows) (parts_offer (member + suc (length rows)) row))
+    append-nil (parts_offer member lane.parts) ∙ ap (λ (n : ℕ). parts_offer n lane.parts) same
+offers_more member (first ∷ lanes) lane =
+    let next : member + 1 + length lanes ≡ member + suc (length lanes) = omega arith in
+    ap (λ (l : List PortEvent). parts_offer member first.parts ++ l) (offers_more (member + 1) lanes lane)
+    ∙ ap (λ (n : ℕ). parts_offer member first.parts ++ (offers_from (member + 1) lanes ++ parts_offer n lane.parts)) next
+    ∙ sym (append_assoc (parts_offer member first.parts) (offers_from (member + 1) lanes) (parts_offer (member + suc (length lanes)) lane.parts))
 
--- one more row is offered
-pub one_offer : (old mid new : Option (List PortEvent)) (rows now : List (List (List ℕ))) (row : List (List ℕ)) (place : ℕ) → place < length rows → now ≡ emptied place rows → row ≡ get_or now place []
-    → Grows old mid (offers_from 1 (take place rows)) → Grows mid new (parts_offer (place + 1) row) → Grows old new (offers_from 1 (take (place + 1) rows))
-one_offer old mid new rows now row place within is at before grows =
-    let count : length (take place rows) ≡ place = length-take place rows ∙ (omega arith) in
+-- what waits in one more lane is offered
+pub one_offer : (old mid new : Option (List PortEvent)) (lanes now : List LaneRecord) (lane : LaneRecord) (place : ℕ) → place < length lanes → now ≡ waited place lanes → lane ≡ get_or now place new_lane
+    → Grows old mid (offers_from 1 (take place lanes)) → Grows mid new (parts_offer (place + 1) lane.parts) → Grows old new (offers_from 1 (take (place + 1) lanes))
+one_offer old mid new lanes now lane place within is at before grows =
+    let count : length (take place lanes) ≡ place = length-take place lanes ∙ (omega arith) in
     let next : place + 1 ≡ 1 + place = omega arith in
-    let row_is : row ≡ get_or rows place [] = at ∙ ap (λ (l : Rows). get_or l place []) is ∙ row_of_emptied place rows in
+    let lane_is : lane ≡ get_or lanes place new_lane = at ∙ ap (λ (l : Lanes). get_or l place new_lane) is ∙ lane_of_waited place lanes in
     let both =
-    ap (λ (n : ℕ). parts_offer n row) (next ∙ ap (λ (n : ℕ). 1 + n) (sym count))
-    ∙ ap (parts_offer (1 + length (take place rows))) row_is in
-    let all = sym (offers_more 1 (take place rows) (get_or rows place [])) ∙ ap (offers_from 1) (sym (take_more rows place [] within)) in
+    ap (λ (n : ℕ). parts_offer n lane.parts) (next ∙ ap (λ (n : ℕ). 1 + n) (sym count))
+    ∙ ap (λ (l : LaneRecord). parts_offer (1 + length (take place lanes)) l.parts) lane_is in
+    let all = sym (offers_more 1 (take place lanes) (get_or lanes place new_lane)) ∙ ap (offers_from 1) (sym (take_more lanes place new_lane within)) in
     subst (Grows old new) all
-    (grows_both old mid new (offers_from 1 (take place rows)) (parts_offer (1 + length (take place rows)) (get_or rows place [])) before
+    (grows_both old mid new (offers_from 1 (take place lanes)) (parts_offer (1 + length (take place lanes)) (get_or lanes place new_lane).parts) before
     (subst (Grows mid new) both grows))
 
--- all rows are offered
-pub all_offers : (old new : Option (List PortEvent)) (rows : List (List (List ℕ))) (place : ℕ) → length rows ≤ place → Grows old new (offers_from 1 (take place rows)) → Grows old new (offers_from 1 rows)
-all_offers old new rows place h grows = subst (λ (l : Rows). Grows old new (offers_from 1 l)) (take_all place rows h) grows
+-- what waits in all lanes is offered
+pub all_offers : (old new : Option (List PortEvent)) (lanes : List LaneRecord) (place : ℕ) → length lanes ≤ place → Grows old new (offers_from 1 (take place lanes)) → Grows old new (offers_from 1 lanes)
+all_offers old new lanes place h grows = subst (λ (l : Lanes). Grows old new (offers_from 1 l)) (take_all place lanes h) grows

@@ -1,5 +1,5 @@
 -- What a bundler joins for each member, and what it takes apart.
-use Rattle.std.specs.Prelude.{ℕ, ◌+◌, ◌-◌, ◌&&◌, Bool, nat_le, if◌then◌else◌, List, [], ◌∷◌, ◌++◌, length, drop, map, replicate, slice_index_or, slice_set, Option, Some, None}
+use Rattle.std.specs.Prelude.{ℕ, ◌+◌, ◌-◌, ◌==◌, ◌&&◌, Bool, nat_le, if◌then◌else◌, List, [], ◌∷◌, ◌++◌, length, drop, map, replicate, slice_index_or, slice_set, Option, Some, None}
 use Rattle.datagram_port.specs.Port.{PortEvent, Received, Quiet, Faulted, Offered}
 use Rattle.datagram_port.specs.declared.port.Sender.{Sender}
 use Rattle.datagram_port.specs.declared.port.Sender.TheVariants.{Client, Peer}
@@ -10,14 +10,26 @@ pub record LeftRecord : Type 0 where
   pub from : ℕ
   pub parts : List (List ℕ)
 
--- the parts that wait to be sent to each member, from member 1 to 9, and those that are left to hand in
+-- The lane of a member: the parts that wait to be sent to it, and how many datagrams the node offers to it.
+-- `offered` is the number of datagrams since the last wait, with 2 for two or more. `calm` is the number of calm
+-- waits in a row, with 8 for eight or more.
+pub record LaneRecord : Type 0 where
+  pub parts : List (List ℕ)
+  pub offered : ℕ
+  pub calm : ℕ
+
+-- the lanes of members 1 to 9, and the parts that are left to hand in
 pub record BundlerRecord : Type 0 where
-  pub waiting : List (List (List ℕ))
+  pub lanes : List LaneRecord
   pub left : LeftRecord
 
--- the bundler at the start: nothing waits, and nothing is left
+-- a lane at the start: nothing waits, nothing was offered, and there was no wait
+abbrev pub new_lane : LaneRecord
+new_lane = record { parts = []; offered = 0; calm = 0 }
+
+-- the bundler at the start: all lanes are new, and nothing is left
 abbrev pub new_bundler : BundlerRecord
-new_bundler = record { waiting = replicate 9 []; left = record { from = 0; parts = [] } }
+new_bundler = record { lanes = replicate 9 new_lane; left = record { from = 0; parts = [] } }
 
 -- ---- what is offered
 
@@ -37,28 +49,41 @@ abbrev pub parts_offer : ℕ → List (List ℕ) → List PortEvent
 parts_offer member parts = offer_of member (datagram_of parts)
 
 -- the offers of the parts that wait for members, from a first one on
-abbrev pub offers_from : ℕ → List (List (List ℕ)) → List PortEvent
+abbrev pub offers_from : ℕ → List LaneRecord → List PortEvent
 offers_from member [] = []
-offers_from member (parts ∷ others) = parts_offer member parts ++ offers_from (member + 1) others
+offers_from member (lane ∷ others) = parts_offer member lane.parts ++ offers_from (member + 1) others
 
 -- the offers of all that waits
 abbrev pub flush_offers : BundlerRecord → List PortEvent
-flush_offers bundler = offers_from 1 bundler.waiting
+flush_offers bundler = offers_from 1 bundler.lanes
 
--- the bundler after all that waited was offered
+-- the number of calm waits in a row after which a lane is calm
+abbrev pub calm_waits : ℕ
+calm_waits = 8
+
+-- the number of calm waits in a row after a wait. It is calm if at most one datagram was offered before it.
+abbrev pub calm_after : LaneRecord → ℕ
+calm_after lane =
+    if nat_le 2 lane.offered then 0 else if nat_le calm_waits lane.calm then lane.calm else lane.calm + 1
+
+-- a lane after a wait: what waited was offered
+abbrev pub after_wait : LaneRecord → LaneRecord
+after_wait lane = record { parts = []; offered = 0; calm = calm_after lane }
+
+-- the bundler after a wait: all that waited was offered
 abbrev pub after_flush : BundlerRecord → BundlerRecord
-after_flush bundler = record bundler { waiting = map (λ _. []) bundler.waiting }
+after_flush bundler = record bundler { lanes = map after_wait bundler.lanes }
 
 -- ---- an offer of the node
 
--- whether parts wait for the member: it has a number from 1 to 9
+-- whether the member has a lane: it has a number from 1 to 9
 abbrev pub is_member : ℕ → Bool
 is_member member = nat_le 1 member && nat_le member 9
 
 -- the parts that wait for a member
 abbrev pub waiting_for : BundlerRecord → ℕ → List (List ℕ)
 waiting_for bundler member =
-    if is_member member then slice_index_or bundler.waiting (member - 1) [] else []
+    if is_member member then (slice_index_or bundler.lanes (member - 1) new_lane).parts else []
 
 -- whether the bundle of some parts has room for one more
 abbrev pub has_room : List (List ℕ) → List ℕ → Bool
@@ -68,7 +93,7 @@ has_room parts bytes = nat_le (length (bundle_bytes parts) + 1 + length bytes) 5
 abbrev pub parts_kept : List (List ℕ) → List ℕ → List (List ℕ)
 parts_kept parts bytes = if has_room parts bytes then parts else []
 
--- the parts that wait for a member after an offer to it
+-- the parts that wait for a member after an offer to it that isn't sent at once
 abbrev pub parts_after : List (List ℕ) → List ℕ → List (List ℕ)
 parts_after parts bytes = if is_part bytes then parts_kept parts bytes ++ bytes ∷ [] else []
 
@@ -76,28 +101,53 @@ parts_after parts bytes = if is_part bytes then parts_kept parts bytes ++ bytes 
 abbrev pub room_offers : ℕ → List (List ℕ) → List ℕ → List PortEvent
 room_offers member parts bytes = if has_room parts bytes then [] else parts_offer member parts
 
--- the offers for an offer to a member that parts wait for
+-- the offers for an offer to a member that isn't sent at once
 abbrev pub member_offers : ℕ → List (List ℕ) → List ℕ → List PortEvent
 member_offers member parts bytes =
     if is_part bytes then room_offers member parts bytes
     else parts_offer member parts ++ Offered (Peer member) bytes ∷ []
 
+-- whether a lane is calm: eight waits in a row were calm, and nothing was offered since the last one
+abbrev pub is_calm : LaneRecord → Bool
+is_calm lane = nat_le calm_waits lane.calm && (lane.offered == 0)
+
+-- whether a datagram is sent at once: it can be a part, and its lane is calm. Then nothing waits.
+abbrev pub goes_at_once : LaneRecord → List ℕ → Bool
+goes_at_once lane bytes = is_calm lane && is_part bytes
+
+-- the offers for an offer to a member
+abbrev pub lane_offers : ℕ → LaneRecord → List ℕ → List PortEvent
+lane_offers member lane bytes =
+    if goes_at_once lane bytes then Offered (Peer member) bytes ∷ [] else member_offers member lane.parts bytes
+
+-- the parts that wait for a member after an offer to it
+abbrev pub lane_parts : LaneRecord → List ℕ → List (List ℕ)
+lane_parts lane bytes = if goes_at_once lane bytes then lane.parts else parts_after lane.parts bytes
+
+-- the number of offered datagrams with one more: 2 for two or more
+abbrev pub one_more : ℕ → ℕ
+one_more offered = if offered == 0 then 1 else 2
+
+-- a lane after an offer to its member
+abbrev pub lane_after : LaneRecord → List ℕ → LaneRecord
+lane_after lane bytes = record { parts = lane_parts lane bytes; offered = one_more lane.offered; calm = lane.calm }
+
 -- the offers for an offer of the node
 abbrev pub offers_at : BundlerRecord → Sender → List ℕ → List PortEvent
 offers_at bundler (Peer member) bytes =
-    if is_member member then member_offers member (slice_index_or bundler.waiting (member - 1) []) bytes
+    if is_member member then lane_offers member (slice_index_or bundler.lanes (member - 1) new_lane) bytes
     else Offered (Peer member) bytes ∷ []
 offers_at bundler (Client number) bytes = Offered (Client number) bytes ∷ []
 
--- the rows after an offer to a member
-abbrev pub rows_after : List (List (List ℕ)) → ℕ → List ℕ → List (List (List ℕ))
-rows_after waiting member bytes =
-    slice_set waiting (member - 1) (parts_after (slice_index_or waiting (member - 1) []) bytes)
+-- the lanes after an offer to a member
+abbrev pub lanes_after : List LaneRecord → ℕ → List ℕ → List LaneRecord
+lanes_after lanes member bytes =
+    slice_set lanes (member - 1) (lane_after (slice_index_or lanes (member - 1) new_lane) bytes)
 
 -- the bundler after an offer of the node
 abbrev pub after_offer : BundlerRecord → Sender → List ℕ → BundlerRecord
 after_offer bundler (Peer member) bytes =
-    if is_member member then record bundler { waiting = rows_after bundler.waiting member bytes } else bundler
+    if is_member member then record bundler { lanes = lanes_after bundler.lanes member bytes } else bundler
 after_offer bundler (Client number) bytes = bundler
 
 -- ---- what is handed in

@@ -1,4 +1,4 @@
-//! What waits to be sent to each member, and what is left of a received bundle.
+//! The lanes of the members, and what is left of a received bundle.
 
 ghost use Rattle.std.specs.Prelude.{◌≡◌, ◌≢◌, ◌≤◌, ◌==◌, length, nat_le, take, true};
 ghost use Rattle.datagram_port.specs.Port.{IsWithin, Received as ReceivedEvent, event_of_receive};
@@ -7,18 +7,18 @@ ghost use Rattle.datagram_port.specs.declared.port.Sender.TheVariants.{Peer};
 ghost use Rattle.bundle_port.specs.Bundler as spec;
 
 use crate::bundle::is_bundle;
+use crate::lane::Lane;
 use crate::left::Left;
-use crate::waiting::Waiting;
 use datagram_port::{Received, Sender};
 use std::marker::Model;
 
 /// The maximum number of members.
 pub(crate) const MAX_MEMBERS: usize = 9;
 
-/// The parts that wait to be sent to each member, and the parts of a received bundle that are left to hand in.
+/// The lanes of the members, and the parts of a received bundle that are left to hand in.
 #[derive(Drop)]
 pub(crate) struct Bundler {
-    pub(crate) waiting: [Waiting; MAX_MEMBERS],
+    pub(crate) lanes: [Lane; MAX_MEMBERS],
     left: Left,
 }
 
@@ -28,27 +28,27 @@ impl Model for Bundler {
 
     ghost Value = { BundlerRecord };
 
-    ghost view = { λ bundler. record { waiting = bundler.waiting; left = bundler.left } };
+    ghost view = { λ bundler. record { lanes = bundler.lanes; left = bundler.left } };
 
-    ghost invariant = { λ bundler. length bundler.waiting ≡ 9 };
+    ghost invariant = { λ bundler. length bundler.lanes ≡ 9 };
 }
 
 impl Bundler {
-    /// Returns that nothing waits, and that nothing is left.
+    /// Returns that all lanes are new, and that nothing is left.
     pub(crate) fn new() -> Self
         ensures { result ≡ spec.new_bundler }
     {
         Bundler {
-            waiting: [
-                Waiting::new(),
-                Waiting::new(),
-                Waiting::new(),
-                Waiting::new(),
-                Waiting::new(),
-                Waiting::new(),
-                Waiting::new(),
-                Waiting::new(),
-                Waiting::new(),
+            lanes: [
+                Lane::new(),
+                Lane::new(),
+                Lane::new(),
+                Lane::new(),
+                Lane::new(),
+                Lane::new(),
+                Lane::new(),
+                Lane::new(),
+                Lane::new(),
             ],
             left: Left::new(),
         }

@@ -4,11 +4,15 @@
 //! receive. The receive first offers what waits to the port below, joined into one datagram for each member. The port
 //! takes the bundles of other members apart, and hands in their parts one by one. All other datagrams pass unchanged.
 //! The port knows no keys, and nothing of what is in the datagrams.
+//!
+//! The lane of a member is calm after eight receives in a row before each of which at most one datagram was offered to
+//! it. Then the first datagram after a receive is offered at once: a lone datagram has no other one to wait for.
 #![tactic(auto)]
 
 mod bundle;
 mod bundler;
 mod gatekeeper;
+mod lane;
 mod laws;
 mod left;
 mod port;
@@ -25,6 +29,6 @@ pub use laws::{
 };
 pub use port::BundlePort;
 pub use worked::{
-    bundles_are_worked, calls_are_worked, calls_can_be_broken, lists_are_worked, offers_are_worked,
-    promises_can_be_broken, receives_are_worked,
+    bundles_are_worked, calls_are_worked, calls_can_be_broken, lanes_are_worked, lists_are_worked,
+    offers_are_worked, promises_can_be_broken, receives_are_worked,
 };

@@ -7,13 +7,14 @@ ghost use Rattle.bundle_port.specs.Runs.{IsAfter};
 
 use crate::bundle::is_part;
 use crate::bundler::{Bundler, MAX_MEMBERS};
+use crate::lane::Lane;
 use crate::record::Record;
 use crate::waiting::Waiting;
 use datagram_port::{Port, Received, Sender};
 
 /// A node's port over another one. It joins the datagrams to a member between two waits into one, and takes the bundles
-/// of the other members apart. It keeps a record of the calls. What it handed in and what the port below was offered
-/// follow from the record.
+/// of the other members apart. It sends a lone datagram to a member at once. It keeps a record of the calls. What it
+/// handed in and what the port below was offered follow from the record.
 #[derive(Drop)]
 pub struct BundlePort<P: Port + Drop> {
     /// The port below. Tests read what it was offered.
@@ -35,6 +36,16 @@ fn offer_waiting<P: Port>(port: &mut P, member: u8, waiting: &mut Waiting)
     waiting.clear();
 }
 
+/// Offers what waits for a member before a wait.
+fn flush_lane<P: Port>(port: &mut P, member: u8, lane: &mut Lane)
+    ensures offers { Grows (P.events port.old) (P.events port.new) (spec.parts_offer member lane.old.parts) }
+    ensures after { lane.new ≡ spec.after_wait lane.old }
+    ensures stays { P.setup port.new ≡ P.setup port.old }
+{
+    offer_waiting(port, member, &mut lane.waiting);
+    lane.count_wait();
+}
+
 /// Offers all that waits, in the order of the members.
 fn flush<P: Port>(port: &mut P, bundler: &mut Bundler)
     ensures offers { Grows (P.events port.old) (P.events port.new) (spec.flush_offers bundler.old) }
@@ -42,7 +53,7 @@ fn flush<P: Port>(port: &mut P, bundler: &mut Bundler)
     ensures stays { P.setup port.new ≡ P.setup port.old }
 {
     for place in 0..MAX_MEMBERS {
-        offer_waiting(port, place as u8 + 1, &mut bundler.waiting[place]);
+        flush_lane(port, place as u8 + 1, &mut bundler.lanes[place]);
     }
 }
 
@@ -60,7 +71,7 @@ fn make_room<P: Port>(port: &mut P, member: u8, waiting: &mut Waiting, bytes: &[
 
 /// Lets a datagram to a member wait if it can be a part of a bundle. Else offers what waits, followed by the datagram.
 /// Returns false if the port below didn't take the datagram.
-fn offer_to<P: Port>(port: &mut P, member: u8, waiting: &mut Waiting, bytes: &[u8]) -> bool
+fn join_to<P: Port>(port: &mut P, member: u8, waiting: &mut Waiting, bytes: &[u8]) -> bool
     ensures offers { Grows (P.events port.old) (P.events port.new)
         (spec.member_offers member waiting.old bytes.now) }
     ensures after { waiting.new ≡ spec.parts_after waiting.old bytes.now }
@@ -73,6 +84,21 @@ fn offer_to<P: Port>(port: &mut P, member: u8, waiting: &mut Waiting, bytes: &[u
     make_room(port, member, waiting, bytes);
     waiting.push(bytes);
     true
+}
+
+/// Takes an offer to a member. Offers the datagram at once if the member's lane is calm. Returns false if the port
+/// below didn't take the datagram.
+fn offer_to<P: Port>(port: &mut P, member: u8, lane: &mut Lane, bytes: &[u8]) -> bool
+    ensures offers { Grows (P.events port.old) (P.events port.new) (spec.lane_offers member lane.old bytes.now) }
+    ensures after { lane.new ≡ spec.lane_after lane.old bytes.now }
+    ensures stays { P.setup port.new ≡ P.setup port.old }
+{
+    let at_once = lane.goes_at_once(bytes);
+    lane.count_offer();
+    if at_once {
+        return port.send(Sender::Peer(member), bytes);
+    }
+    join_to(port, member, &mut lane.waiting, bytes)
 }
 
 /// Takes an offer of the node. Returns false if the port below didn't take the datagram.
@@ -88,7 +114,7 @@ fn offer<P: Port>(port: &mut P, bundler: &mut Bundler, to: Sender, bytes: &[u8])
         return port.send(to, bytes);
     }
     let place = member as usize - 1;
-    offer_to(port, member, &mut bundler.waiting[place], bytes)
+    offer_to(port, member, &mut bundler.lanes[place], bytes)
 }
 
 impl<P: Port + Drop> BundlePort<P> {

@@ -85,6 +85,60 @@ fn datagrams_are_joined(rt: HostRuntime) -> Result<(), Fail> {
     Ok(())
 }
 
+/// Waits the given number of times.
+fn wait<P: Port + Drop>(port: &mut BundlePort<P>, times: u32) {
+    let mut buffer = [0; 512];
+    for _ in 0..times {
+        port.receive(&mut buffer);
+    }
+}
+
+/// After eight calm waits the first datagram to a member is offered at once, and the later ones are joined.
+#[test]
+fn lone_datagram_is_offered_at_once(rt: HostRuntime) -> Result<(), Fail> {
+    let mut port = BundlePort::new(ListPort::new(rt.alloc(), &[]));
+    wait(&mut port, 8);
+    assert!(rt; port.send(Sender::Peer(2), FIRST));
+    assert!(rt; port.send(Sender::Peer(2), FIRST));
+    assert!(rt; port.send(Sender::Peer(3), FIRST));
+    assert!(rt; port.send(Sender::Peer(2), SECOND));
+    assert!(rt; port.send(Sender::Peer(2), THIRD));
+    wait(&mut port, 1);
+    let below = port.into_inner();
+    let entries = below.record().ok_or("a record")?;
+    assert!(rt; entries.len() == 12);
+    assert!(rt; is_offer(&entries[8], Sender::Peer(2), FIRST));
+    assert!(rt; is_offer(&entries[9], Sender::Peer(3), FIRST));
+    assert!(rt; is_offer(&entries[10], Sender::Peer(2), &bundle_of_three()));
+    assert!(rt; entries[11] == PortEntry::Quiet);
+    Ok(())
+}
+
+/// Returns the number of events of the port below after `waits` waits, `offers` offers of `datagram`, another wait, and
+/// the offer of a part.
+fn events_after(alloc: Global, waits: u32, offers: u32, datagram: &[u8]) -> Result<usize, Fail> {
+    let mut port = BundlePort::new(ListPort::new(alloc, &[]));
+    wait(&mut port, waits);
+    for _ in 0..offers {
+        port.send(Sender::Peer(2), datagram);
+    }
+    wait(&mut port, 1);
+    port.send(Sender::Peer(2), FIRST);
+    Ok(port.into_inner().record().ok_or("a record")?.len())
+}
+
+/// A wait is calm if at most one datagram was offered before it. A datagram that can't be a part counts too.
+#[test]
+fn two_datagrams_make_a_lane_busy(rt: HostRuntime) -> Result<(), Fail> {
+    assert!(rt; events_after(rt.alloc(), 6, 0, FIRST)? == 7);
+    assert!(rt; events_after(rt.alloc(), 7, 0, FIRST)? == 9);
+    assert!(rt; events_after(rt.alloc(), 7, 1, FIRST)? == 10);
+    assert!(rt; events_after(rt.alloc(), 20, 1, b"OV")? == 23);
+    assert!(rt; events_after(rt.alloc(), 20, 2, FIRST)? == 23);
+    assert!(rt; events_after(rt.alloc(), 20, 2, b"OV")? == 23);
+    Ok(())
+}
+
 /// A datagram that can't be a part comes after what waits for its member. A client's datagram doesn't wait.
 #[test]
 fn others_do_not_wait(rt: HostRuntime) -> Result<(), Fail> {
@@ -105,7 +159,7 @@ fn others_do_not_wait(rt: HostRuntime) -> Result<(), Fail> {
     Ok(())
 }
 
-/// The port below refuses a datagram that doesn't wait.
+/// The port below refuses a datagram that doesn't wait, also one that is offered at once.
 #[test]
 fn refusals_are_told(rt: HostRuntime) -> Result<(), Fail> {
     let mut below = ListPort::new(rt.alloc(), &[]);
@@ -114,6 +168,9 @@ fn refusals_are_told(rt: HostRuntime) -> Result<(), Fail> {
     assert!(rt; port.send(Sender::Peer(2), FIRST));
     assert!(rt; !port.send(Sender::Peer(2), b""));
     assert!(rt; !port.send(Sender::Client(2), FIRST));
+    wait(&mut port, 9);
+    assert!(rt; !port.send(Sender::Peer(2), FIRST));
+    assert!(rt; port.send(Sender::Peer(2), FIRST));
     Ok(())
 }
 

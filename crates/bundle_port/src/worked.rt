@@ -2,8 +2,8 @@ ghost use Rattle.std.specs.Prelude.{◌≡◌, [], ◌∷◌, ◌++◌, Some, No
 ghost use Rattle.datagram_port.specs.Port.{Faulted, Offered, Quiet, Received};
 ghost use Rattle.datagram_port.specs.declared.port.Sender.TheVariants.{Client, Peer};
 ghost use Rattle.bundle_port.specs.Bundle.{bundle_bytes, is_bundle, is_part, parts_at, parts_from, parts_or_itself};
-ghost use Rattle.bundle_port.specs.Bundler.{after_event, after_flush, after_left, after_offer, datagram_of, first_part, flush_offers, handed_in, has_room, new_bundler, offers_at, waiting_for};
-ghost use Rattle.bundle_port.specs.Examples.{both, bundle_of_both, first, from_1, left_with, of_len, second, waiting_with};
+ghost use Rattle.bundle_port.specs.Bundler.{after_event, after_flush, after_left, after_offer, calm_after, datagram_of, first_part, flush_offers, goes_at_once, handed_in, has_room, is_calm, new_bundler, new_lane, offers_at, one_more, waiting_for};
+ghost use Rattle.bundle_port.specs.Examples.{both, bundle_of_both, calm_for, first, from_1, lane_of, left_with, of_len, second, waiting_with, with_lane};
 ghost use Rattle.bundle_port.specs.Promises.{HandsIn, JoinsOffers, all_offered, all_received, are_parts, datagrams_from, left_from, own_offers};
 ghost use Rattle.bundle_port.specs.Runs.{IsAfter, Left, Offer, Polls, Waits, after_calls, below_events, handed_events, may_call, may_make};
 
@@ -32,15 +32,16 @@ pub fn bundles_are_worked()
 /// Worked cases. What waits, and what is offered.
 pub fn offers_are_worked()
     ensures waits { offers_at new_bundler (Peer 2) first ≡ [] }
-    ensures waiting { after_offer new_bundler (Peer 2) first ≡ waiting_with 2 (first ∷ []) }
-    ensures second_waits { offers_at (waiting_with 2 (first ∷ [])) (Peer 2) second ≡ [] }
-    ensures second_waiting { after_offer (waiting_with 2 (first ∷ [])) (Peer 2) second ≡ waiting_with 2 both }
+    ensures waiting { after_offer new_bundler (Peer 2) first ≡ with_lane new_bundler 2 (lane_of (first ∷ []) 1 0) }
+    ensures second_waits { offers_at (with_lane new_bundler 2 (lane_of (first ∷ []) 1 0)) (Peer 2) second ≡ [] }
+    ensures second_waiting { after_offer (with_lane new_bundler 2 (lane_of (first ∷ []) 1 0)) (Peer 2) second
+        ≡ waiting_with 2 both }
     ensures lengths { map (λ len. offers_at new_bundler (Peer 2) (of_len len)) (0 ∷ 31 ∷ 32 ∷ 255 ∷ 256 ∷ [])
         ≡ (Offered (Peer 2) [] ∷ []) ∷ (Offered (Peer 2) (of_len 31) ∷ []) ∷ [] ∷ []
         ∷ (Offered (Peer 2) (of_len 256) ∷ []) ∷ [] }
     ensures in_order { offers_at (waiting_with 2 both) (Peer 2) []
         ≡ Offered (Peer 2) bundle_of_both ∷ Offered (Peer 2) [] ∷ [] }
-    ensures in_order_after { after_offer (waiting_with 2 both) (Peer 2) [] ≡ new_bundler }
+    ensures in_order_after { after_offer (waiting_with 2 both) (Peer 2) [] ≡ waiting_with 2 [] }
     ensures room { map (λ len. has_room (of_len 255 ∷ []) (of_len len)) (252 ∷ 253 ∷ []) ≡ true ∷ false ∷ [] }
     ensures sixth { offers_at (waiting_with 2 (replicate 5 (of_len 79))) (Peer 2) (of_len 79) ≡ [] }
     ensures sixth_after { after_offer (waiting_with 2 (replicate 5 (of_len 79))) (Peer 2) (of_len 79)
@@ -52,15 +53,51 @@ pub fn offers_are_worked()
     ensures members { map (λ member. offers_at new_bundler (Peer member) second) (0 ∷ 1 ∷ 9 ∷ 10 ∷ [])
         ≡ (Offered (Peer 0) second ∷ []) ∷ [] ∷ [] ∷ (Offered (Peer 10) second ∷ []) ∷ [] }
     ensures members_after { map (λ member. after_offer new_bundler (Peer member) second) (0 ∷ 1 ∷ 9 ∷ 10 ∷ [])
-        ≡ new_bundler ∷ waiting_with 1 (second ∷ []) ∷ waiting_with 9 (second ∷ []) ∷ new_bundler ∷ [] }
+        ≡ new_bundler ∷ with_lane new_bundler 1 (lane_of (second ∷ []) 1 0)
+        ∷ with_lane new_bundler 9 (lane_of (second ∷ []) 1 0) ∷ new_bundler ∷ [] }
     ensures client { offers_at (waiting_with 2 both) (Client 2) first ≡ Offered (Client 2) first ∷ [] }
     ensures client_after { after_offer (waiting_with 2 both) (Client 2) first ≡ waiting_with 2 both }
     ensures datagrams { map datagram_of ([] ∷ (first ∷ []) ∷ both ∷ []) ≡ None ∷ Some first ∷ Some bundle_of_both ∷ [] }
-    ensures flush { flush_offers (record new_bundler { waiting = both ∷ [] ∷ (first ∷ []) ∷ replicate 6 [] })
+    ensures flush { flush_offers (with_lane (waiting_with 1 both) 3 (lane_of (first ∷ []) 1 0))
         ≡ Offered (Peer 1) bundle_of_both ∷ Offered (Peer 3) first ∷ [] }
-    ensures flush_after { after_flush (waiting_with 2 both) ≡ new_bundler }
+    ensures flush_after { after_flush (waiting_with 2 both) ≡ with_lane (calm_for 1) 2 new_lane }
     ensures waiting_for { map (waiting_for (waiting_with 1 both)) (0 ∷ 1 ∷ 2 ∷ 10 ∷ []) ≡ [] ∷ both ∷ [] ∷ [] ∷ [] }
     ensures waiting_for_last { map (waiting_for (waiting_with 9 both)) (9 ∷ 10 ∷ []) ≡ both ∷ [] ∷ [] }
+{}
+
+/// Worked cases. When a lane is calm, and what is sent at once.
+pub fn lanes_are_worked()
+    ensures count { map one_more (0 ∷ 1 ∷ 2 ∷ []) ≡ 1 ∷ 2 ∷ 2 ∷ [] }
+    ensures busy_wait { map (λ offered. calm_after (lane_of [] offered 3)) (0 ∷ 1 ∷ 2 ∷ []) ≡ 4 ∷ 4 ∷ 0 ∷ [] }
+    ensures most { map (λ calm. calm_after (lane_of [] 1 calm)) (0 ∷ 6 ∷ 7 ∷ 8 ∷ []) ≡ 1 ∷ 7 ∷ 8 ∷ 8 ∷ [] }
+    ensures calm { map is_calm (lane_of [] 0 7 ∷ lane_of [] 0 8 ∷ lane_of [] 1 8 ∷ lane_of [] 2 8 ∷ [])
+        ≡ false ∷ true ∷ false ∷ false ∷ [] }
+    ensures lengths { map (λ len. goes_at_once (lane_of [] 0 8) (of_len len)) (31 ∷ 32 ∷ 255 ∷ 256 ∷ [])
+        ≡ false ∷ true ∷ true ∷ false ∷ [] }
+    ensures quiet_waits { map (λ waits. below_events new_bundler
+        (replicate waits (Waits Quiet) ++ Offer (Peer 2) first ∷ [])) (7 ∷ 8 ∷ 9 ∷ [])
+        ≡ replicate 7 Quiet ∷ (replicate 8 Quiet ++ Offered (Peer 2) first ∷ [])
+        ∷ (replicate 9 Quiet ++ Offered (Peer 2) first ∷ []) ∷ [] }
+    ensures at_once { offers_at (calm_for 8) (Peer 2) first ≡ Offered (Peer 2) first ∷ [] }
+    ensures at_once_after { after_offer (calm_for 8) (Peer 2) first ≡ with_lane (calm_for 8) 2 (lane_of [] 1 8) }
+    ensures ninth { below_events (calm_for 7)
+        (Offer (Peer 2) first ∷ Waits Quiet ∷ Offer (Peer 2) first ∷ Waits Quiet ∷ Offer (Peer 2) second ∷ [])
+        ≡ Offered (Peer 2) first ∷ Quiet ∷ Offered (Peer 2) first ∷ Quiet ∷ Offered (Peer 2) second ∷ [] }
+    ensures second_waits { after_calls (calm_for 8) (Offer (Peer 2) first ∷ Offer (Peer 2) second ∷ [])
+        ≡ with_lane (calm_for 8) 2 (lane_of (second ∷ []) 2 8) }
+    ensures later_are_joined { below_events (calm_for 8)
+        (Offer (Peer 2) [] ∷ Offer (Peer 2) first ∷ Offer (Peer 2) second ∷ Waits Quiet ∷ [])
+        ≡ Offered (Peer 2) [] ∷ Offered (Peer 2) bundle_of_both ∷ Quiet ∷ [] }
+    ensures busy_again { after_calls (calm_for 8) (Offer (Peer 2) first ∷ Offer (Peer 2) second ∷ Waits Quiet ∷ [])
+        ≡ with_lane (calm_for 8) 2 new_lane }
+    ensures own_lane { below_events (calm_for 8)
+        (Offer (Peer 2) first ∷ Offer (Peer 3) second ∷ Offer (Peer 2) second ∷ Offer (Peer 4) first ∷ [])
+        ≡ Offered (Peer 2) first ∷ Offered (Peer 3) second ∷ Offered (Peer 4) first ∷ [] }
+    ensures no_part { after_offer (calm_for 8) (Peer 2) [] ≡ with_lane (calm_for 8) 2 (lane_of [] 1 8) }
+    ensures two_of_no_part { after_calls (calm_for 8) (Offer (Peer 2) [] ∷ Offer (Peer 2) [] ∷ Waits Quiet ∷ [])
+        ≡ with_lane (calm_for 8) 2 new_lane }
+    ensures clients { after_offer (calm_for 8) (Client 2) first ≡ calm_for 8 }
+    ensures polls { after_calls (calm_for 7) (Polls Faulted ∷ []) ≡ calm_for 7 }
 {}
 
 /// Worked cases. The parts of a bundle of member 1, handed in one by one.
@@ -91,10 +128,10 @@ pub fn calls_are_worked()
         ≡ Offered (Peer 2) bundle_of_both ∷ Offered (Peer 3) first ∷ Quiet ∷ Quiet ∷ [] }
     ensures polled { below_events new_bundler (Offer (Peer 2) first ∷ Polls Faulted ∷ []) ≡ Faulted ∷ [] }
     ensures after { after_calls new_bundler (Waits (from_1 bundle_of_both) ∷ Offer (Peer 2) first ∷ Left ∷ [])
-        ≡ record (left_with []) { waiting = (waiting_with 2 (first ∷ [])).waiting } }
-    ensures after_flush { after_calls new_bundler (Offer (Peer 2) first ∷ Waits Quiet ∷ []) ≡ new_bundler }
+        ≡ record (left_with []) { lanes = (with_lane (calm_for 1) 2 (lane_of (first ∷ []) 1 1)).lanes } }
+    ensures after_flush { after_calls new_bundler (Offer (Peer 2) first ∷ Waits Quiet ∷ []) ≡ calm_for 1 }
     ensures after_poll { after_calls new_bundler (Offer (Peer 2) first ∷ Polls Faulted ∷ [])
-        ≡ waiting_with 2 (first ∷ []) }
+        ≡ with_lane new_bundler 2 (lane_of (first ∷ []) 1 0) }
     ensures may { map (may_call new_bundler) (Waits (from_1 []) ∷ Waits Quiet ∷ Waits Faulted ∷ Polls (from_1 [])
         ∷ Polls Faulted ∷ Offer (Client 1) [] ∷ []) ≡ replicate 6 true }
     ensures may_not { map (may_call new_bundler) (Left ∷ Polls Quiet ∷ Waits (Offered (Peer 1) [])
@@ -124,13 +161,15 @@ pub fn lists_are_worked()
 
 /// Counterexamples: each promise of a port after calls fails for a minimal one.
 pub fn calls_can_be_broken()
-    ensures after { IsAfter (Some (Faulted ∷ from_1 first ∷ [])) new_bundler
+    ensures after { IsAfter (Some (Faulted ∷ from_1 first ∷ [])) (calm_for 1)
         (Waits Faulted ∷ Polls (from_1 first) ∷ []) }
-    ensures no_record { IsAfter None new_bundler (Waits Faulted ∷ []) }
-    ensures unrecorded { IsAfter (Some []) new_bundler (Waits Faulted ∷ []) → ⊥ }
-    ensures second_unrecorded { IsAfter (Some (Faulted ∷ [])) new_bundler
+    ensures no_record { IsAfter None (calm_for 1) (Waits Faulted ∷ []) }
+    ensures unrecorded { IsAfter (Some []) (calm_for 1) (Waits Faulted ∷ []) → ⊥ }
+    ensures second_unrecorded { IsAfter (Some (Faulted ∷ [])) (calm_for 1)
         (Waits Faulted ∷ Polls (from_1 first) ∷ []) → ⊥ }
-    ensures another_bundler { IsAfter (Some (Faulted ∷ [])) (waiting_with 2 both) (Waits Faulted ∷ []) → ⊥ }
+    ensures another_bundler { IsAfter (Some (Faulted ∷ [])) (with_lane (calm_for 1) 2 (lane_of both 0 1))
+        (Waits Faulted ∷ []) → ⊥ }
+    ensures uncounted_wait { IsAfter (Some (Faulted ∷ [])) new_bundler (Waits Faulted ∷ []) → ⊥ }
     ensures quiet_poll { IsAfter (Some (Quiet ∷ [])) new_bundler (Polls Quiet ∷ []) → ⊥ }
 {}
 
@@ -150,4 +189,10 @@ pub fn promises_can_be_broken()
     ensures to_a_client { JoinsOffers (Offer (Peer 2) first ∷ Offer (Peer 2) second ∷ []) (Client 2) bundle_of_both
         → ⊥ }
     ensures no_bundle { JoinsOffers (Offer (Peer 2) first ∷ []) (Peer 2) first → ⊥ }
+    ensures in_order { all_offered 2 (Offered (Peer 2) first ∷ Offered (Peer 2) second ∷ [])
+        ≡ own_offers 2 (Offer (Peer 2) first ∷ Offer (Peer 2) second ∷ []) }
+    ensures reordered { all_offered 2 (Offered (Peer 2) second ∷ Offered (Peer 2) first ∷ [])
+        ≡ own_offers 2 (Offer (Peer 2) first ∷ Offer (Peer 2) second ∷ []) → ⊥ }
+    ensures at_once_while_others_wait { all_offered 2 (below_events (with_lane new_bundler 2 (lane_of (first ∷ []) 0 8))
+        (Offer (Peer 2) second ∷ Waits Quiet ∷ [])) ≡ both → ⊥ }
 {}

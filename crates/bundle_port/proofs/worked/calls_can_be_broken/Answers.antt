@@ -1,8 +1,8 @@
--- A record that is short, another bundler, and a quiet poll.
-use Rattle.std.proofs.Common.{◌≡◌, List, [], ◌∷◌, length, refl, ap, true≢false, sym, arith}
+-- A record that is short, another bundler, a wait that is not counted, and a quiet poll.
+use Rattle.std.proofs.Common.{◌≡◌, ℕ, List, [], ◌∷◌, get_or, length, refl, ap, true≢false, sym, arith}
 use Rattle.std.specs.Prelude.{Some}
 use Rattle.datagram_port.specs.Port.{Faulted, PortEvent}
-use Rattle.bundle_port.specs.Bundler.{BundlerRecord, waiting_for}
+use Rattle.bundle_port.specs.Bundler.{BundlerRecord, new_lane, waiting_for}
 use Rattle.bundle_port.specs.Examples.{first, from_1}
 use Rattle.bundle_port.proofs.worked.calls_can_be_broken.Goals as goal
 
@@ -27,6 +27,13 @@ returns-clause-second_unrecorded c = λ h. (let e = h.below_is (Faulted ∷ []) 
 
 pub returns-clause-another_bundler : goal.returns-clause-another_bundler
 returns-clause-another_bundler c = λ h. (let e = ap (λ (b : BundlerRecord). length (waiting_for b 2)) h.bundler_is in absurd (omega (arith, e)))
+
+-- the number of calm waits of member 1
+abbrev calm_of : BundlerRecord → ℕ
+calm_of b = (get_or b.lanes 0 new_lane).calm
+
+pub returns-clause-uncounted_wait : goal.returns-clause-uncounted_wait
+returns-clause-uncounted_wait c = λ h. (let e : 0 ≡ 1 = ap calm_of h.bundler_is in absurd (omega (arith, e)))
 
 pub returns-clause-quiet_poll : goal.returns-clause-quiet_poll
 returns-clause-quiet_poll c = λ h. true≢false (sym h.is_made)

@@ -1,5 +1,5 @@
 -- An event that didn't come, a part of another datagram, and a bundle of what was not offered.
-use Rattle.std.proofs.Common.{◌≡◌, ℕ, List, [], ◌∷◌, None, refl, subst, ap, ◌∙◌, arith, inl, inr}
+use Rattle.std.proofs.Common.{◌≡◌, ℕ, List, [], ◌∷◌, None, get_or, refl, subst, ap, ◌∙◌, arith, inl, inr}
 use Rattle.std.specs.Prelude.{Some, slice_index}
 use Rattle.datagram_port.specs.Port.{PortEvent, Received}
 use Rattle.datagram_port.specs.declared.port.Sender.{Sender}
@@ -140,3 +140,18 @@ returns-clause-to_a_client c = λ j. (let e = j.to_is in absurd cc)
 
 pub returns-clause-no_bundle : goal.returns-clause-no_bundle
 returns-clause-no_bundle c = λ j. some_none j.parts j.parts_are
+
+-- ---- in order
+
+-- the first bytes of the first datagrams differ
+first_differ : second ∷ first ∷ [] ≡ both → ⊥
+first_differ e = (let same : 3 ≡ 1 = ap (λ (l : List (List ℕ)). slice_index (get_or l 0 []) 0) e in omega (arith, same))
+
+pub returns-clause-in_order : goal.returns-clause-in_order
+returns-clause-in_order c = refl
+
+pub returns-clause-reordered : goal.returns-clause-reordered
+returns-clause-reordered c = first_differ
+
+pub returns-clause-at_once_while_others_wait : goal.returns-clause-at_once_while_others_wait
+returns-clause-at_once_while_others_wait c = first_differ
