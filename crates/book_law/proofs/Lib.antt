@@ -1,0 +1,12 @@
+pub mod Actions
+pub mod Commands
+pub mod Effects
+pub mod Fits
+pub mod Gates
+pub mod Justified
+pub mod Opened
+pub mod Results
+pub mod Stores
+pub mod Told
+pub mod Under
+pub mod Walk

@@ -1,0 +1,197 @@
+-- Worked histories of three nodes and two users, silver and maple. Silver is canonical token 0, and maple token 1. Each
+-- has the secret of RFC 4226, Appendix D. Floor: the first free factor of a token at a node.
+use Rattle.std.specs.Prelude.{ℕ, ◌-◌, Bool, List, [], ◌∷◌, ◌++◌, Option, Some, None, codes}
+use Rattle.floor_store.specs.Content.{Content, opening_row}
+use Rattle.floor_store.specs.Records.{PassRecord, ProposalRecord, RowRecord, span_of}
+use Rattle.token_file.specs.Credential.{Credential}
+use Rattle.vote_core.specs.Schedule.{content_with_gate, last_boot}
+use Rattle.vote_core.specs.Voting.{pass_of}
+use Rattle.vote_core.specs.declared.message.Message.{Message}
+use Rattle.vote_core.specs.declared.message.Message.TheVariants.{Ask, Grant, Floor}
+use Rattle.oath_node.specs.Machine.{NodeEvent, Client, Peer}
+use Rattle.cluster_sim.specs.Examples.{config_with, user_named}
+use Rattle.book_law.specs.Lives.{Action, Opens, Takes, Offers, Stops, StopsIn, Loses, Remakes, Enrols, Process, Sealed, Setting, Store, Terms, state_of, store_at}
+
+abbrev pub silver : Credential
+silver = user_named (codes "silver")
+
+abbrev pub maple : Credential
+maple = user_named (codes "maple")
+
+-- the keys of two clusters
+abbrev pub first_key : List ℕ
+first_key = 1 ∷ []
+
+abbrev pub second_key : List ℕ
+second_key = 2 ∷ []
+
+-- terms with the key, for the users and their canonical tokens
+abbrev pub terms_of : List ℕ → List Credential → List ℕ → Terms
+terms_of key book seats = record { config = config_with book; key = key; seats = seats }
+
+-- silver's line stands first in the users file, or maple's
+abbrev pub silver_first : Terms
+silver_first = terms_of first_key (silver ∷ maple ∷ []) (0 ∷ 1 ∷ [])
+
+abbrev pub maple_first : Terms
+maple_first = terms_of first_key (maple ∷ silver ∷ []) (1 ∷ 0 ∷ [])
+
+-- silver has gone from the users file
+abbrev pub maple_alone : Terms
+maple_alone = terms_of first_key (maple ∷ []) (1 ∷ [])
+
+-- the terms of another cluster's key
+abbrev pub other_key : Terms
+other_key = terms_of second_key (maple ∷ silver ∷ []) (1 ∷ 0 ∷ [])
+
+-- three nodes with new stores
+abbrev pub three : Setting
+three = record { n = 3; tokens = 2; boots = []; old = [] }
+
+-- the stores of nodes 1 and 2 get a row for each token (actions 0 to 3)
+abbrev pub enrolled : List Action
+enrolled = Enrols 1 0 0 ∷ Enrols 1 1 0 ∷ Enrols 2 0 0 ∷ Enrols 2 1 0 ∷ []
+
+-- a line of client 7
+abbrev pub line : List ℕ → NodeEvent
+line text = Client 7 100 text
+
+-- the first code of each user
+abbrev pub silver_line : NodeEvent
+silver_line = line (codes "CHECK 1 silver 755224 -")
+
+abbrev pub maple_line : NodeEvent
+maple_line = line (codes "CHECK 2 maple 755224 -")
+
+-- the first proposal of a node in the boot
+abbrev pub proposal_of_boot : ℕ → ℕ → ProposalRecord
+proposal_of_boot node boot = record { node = node; boot = boot; seq = 0 }
+
+-- an envelope that a node reads from its sender's own address
+abbrev pub from_peer : ℕ → ℕ → Message → NodeEvent
+from_peer sender receiver message =
+    Peer sender (Some (record { sender = sender; receiver = receiver; message = message }))
+
+-- node 1's Ask for factor 0 at node 2, and node 2's Grant, for the number that the reader has for silver
+abbrev pub ask_for : ℕ → NodeEvent
+ask_for number = from_peer 1 2 (Ask (proposal_of_boot 1 1) number (span_of 0 0))
+
+abbrev pub grant_for : ℕ → NodeEvent
+grant_for number = from_peer 2 1 (Grant (proposal_of_boot 1 1) number (span_of 0 0))
+
+-- both users are in both files, in two orders (actions 4 and 5)
+abbrev pub both_open : List Action
+both_open = enrolled ++ Opens 1 silver_first ∷ Opens 2 maple_first ∷ []
+
+-- Silver's line comes to node 1, whose number for silver is 0. Node 2's number for silver is 1 (actions 6 to 12).
+abbrev pub silver_accepted : List Action
+silver_accepted =
+    both_open ++ Takes 1 silver_line ∷ Offers 1 ∷ Takes 2 (ask_for 1) ∷ Offers 2 ∷ Takes 1 (grant_for 0) ∷ Offers 1
+    ∷ Offers 1 ∷ []
+
+-- maple's line comes to a node alone, whose number for maple is 0
+abbrev pub alone : Setting
+alone = record { n = 1; tokens = 2; boots = []; old = [] }
+
+abbrev pub maple_accepted : List Action
+maple_accepted =
+    Enrols 1 0 0 ∷ Enrols 1 1 0 ∷ Opens 1 maple_first ∷ Takes 1 maple_line ∷ Offers 1 ∷ []
+
+-- Silver goes from node 1's users file after her login, and her line comes. Then she comes back in another place, and
+-- her line comes again.
+abbrev pub silver_goes : List Action
+silver_goes = silver_accepted ++ Stops 1 ∷ Opens 1 maple_alone ∷ Takes 1 silver_line ∷ Offers 1 ∷ []
+
+abbrev pub silver_returns : List Action
+silver_returns = silver_goes ++ Stops 1 ∷ Opens 1 maple_first ∷ Takes 1 silver_line ∷ Offers 1 ∷ []
+
+-- node 2 has another key, and its process reads no envelope from node 1's bytes
+abbrev pub under_another_key : List Action
+under_another_key =
+    enrolled ++ Opens 1 silver_first ∷ Opens 2 other_key ∷ Takes 1 silver_line ∷ Offers 1 ∷ Takes 2 (Peer 1 None) ∷ []
+
+-- node 2 told node 1 silver's floor 4 in a former time
+abbrev pub old_floor : Sealed
+old_floor = record { key = first_key; envelope = record { sender = 2; receiver = 1; message = Floor 0 4 } }
+
+abbrev pub three_with_old : Setting
+three_with_old = record three { old = old_floor ∷ [] }
+
+-- the envelope arrives at a process whose number for silver is 1
+abbrev pub old_floor_comes : List Action
+old_floor_comes = enrolled ++ Opens 1 maple_first ∷ Takes 1 (from_peer 2 1 (Floor 1 4)) ∷ []
+
+-- ---- Stores
+
+-- a row with the floor
+abbrev pub row_from : ℕ → RowRecord
+row_from floor = opening_row floor
+
+-- a store of two rows, for the tokens 5 and 3, after a pass of the given row
+abbrev pub two_rows : Option PassRecord → Store
+two_rows last = record {
+  names = 5 ∷ 3 ∷ [];
+  content = record { rows = row_from 50 ∷ row_from 30 ∷ []; boot = 4; last = last };
+}
+
+-- the same store without a pass, with a failure of the token 3
+abbrev pub shut_rows : Store
+shut_rows = record (two_rows None) {
+  content = content_with_gate 1 (record { fails = 1; until = 90 }) (two_rows None).content;
+}
+
+-- a pass of the row or number
+abbrev pub pass_at : ℕ → PassRecord
+pass_at token = pass_of token 0 0 4 0
+
+-- what a process sees, with one row
+abbrev pub one_row : Option PassRecord → Content
+one_row last = record { rows = row_from 31 ∷ []; boot = 5; last = last }
+
+-- ---- Parts of histories
+
+-- the process of node 1 after a history of the node alone
+abbrev pub process_of_1 : List Action → Process
+process_of_1 history = (state_of alone history).processes 1
+
+-- the store of node 1 after such a history
+abbrev pub store_of_1 : List Action → Store
+store_of_1 history = store_at (process_of_1 history)
+
+-- the node's store has silver's row
+abbrev pub has_silver : List Action
+has_silver = Enrols 1 0 0 ∷ []
+
+-- terms for silver alone
+abbrev pub silver_alone : Terms
+silver_alone = terms_of first_key (silver ∷ []) (0 ∷ [])
+
+-- a process of the node takes silver's line
+abbrev pub takes_silver : List Action
+takes_silver = has_silver ++ Opens 1 silver_alone ∷ Takes 1 silver_line ∷ []
+
+-- a process ends inside the step of the line
+abbrev pub ends_in_the_step : Bool → List Action
+ends_in_the_step kept = has_silver ++ Opens 1 silver_alone ∷ StopsIn 1 kept silver_line ∷ []
+
+-- the node alone, whose first store is at the boot before the last
+abbrev pub late : Setting
+late = record alone { boots = (last_boot - 1) ∷ [] }
+
+-- node 1 is lost after silver's login
+abbrev pub loses_one : List Action
+loses_one = silver_accepted ++ Loses 1 ∷ []
+
+-- its store is replaced at the boot, with rows for the tokens, each with the floor
+abbrev pub remade_with : ℕ → List ℕ → ℕ → List Action
+remade_with boot given floor = loses_one ++ Remakes 1 boot given (λ token. floor) ∷ []
+
+-- a wrong code of silver's, at a moment
+abbrev pub wrong_at : ℕ → NodeEvent
+wrong_at moment = Client 7 moment (codes "CHECK 3 silver 000000 -")
+
+-- a wrong code comes under one number, and another under the other number
+abbrev pub fails_twice : List Action
+fails_twice =
+    Enrols 1 0 0 ∷ Enrols 1 1 0 ∷ Opens 1 silver_first ∷ Takes 1 (wrong_at 100) ∷ Stops 1 ∷ Opens 1 maple_first
+    ∷ Takes 1 (wrong_at 105) ∷ Stops 1 ∷ []

@@ -1,0 +1,6 @@
+pub mod Broken
+pub mod Examples
+pub mod Justified
+pub mod Lives
+pub mod Promises
+pub mod Results

@@ -1,0 +1,190 @@
+//! The laws about every history of nodes whose users files, settings and keys change. Floor: the first free factor of a
+//! token at a node.
+
+ghost use Rattle.std.specs.Prelude.{◌≡◌, ℕ, suc, [], ◌∷◌, ◌++◌, List, false, true, map, Some, None, codes};
+ghost use Rattle.admit_core.specs.Throttle.{Accepted as Passed, Failed, SpacesFailures};
+ghost use Rattle.client_lines.specs.declared.answer.Outcome.TheVariants.{Accepted, Refused};
+ghost use Rattle.client_lines.specs.declared.answer.Reason.TheVariants.{Invalid, Unknown};
+ghost use Rattle.cluster_sim.specs.Examples.{told_outcome};
+ghost use Rattle.oath_node.specs.Machine.{opened_node};
+ghost use Rattle.otp_core.specs.Acceptance.{HaveSingleUse, KeepRealTimeOrder};
+ghost use Rattle.vote_core.specs.Cases.{accepted};
+ghost use Rattle.vote_core.specs.Safety.{HaveMajority};
+ghost use Rattle.vote_core.specs.Schedule.{last_boot};
+ghost use Rattle.book_law.specs.Broken.{ask_comes, ask_comes_early, equal_seats, forged, forged_in_a_stop, from_another, no_row, old_grant, taken, taken_from, taken_later, takes_again, takes_and_enrols, takes_both, to_nobody, two_rows_of_silver, unknown_number};
+ghost use Rattle.book_law.specs.Examples.{alone, ask_for, ends_in_the_step, fails_twice, first_key, has_silver, late, loses_one, maple, maple_accepted, maple_alone, maple_first, old_floor_comes, one_row, other_key, pass_at, process_of_1, remade_with, row_from, shut_rows, silver, silver_accepted, silver_alone, silver_first, silver_goes, silver_line, silver_returns, store_of_1, takes_silver, terms_of, three, three_with_old, two_rows, under_another_key};
+ghost use Rattle.book_law.specs.Justified.{JustifiesAll};
+ghost use Rattle.book_law.specs.Lives.{Action, Down, Enrols, FailsToOpen, IsHistory, Loses, Offers, Opens, Raises, Remakes, Setting, Stops, StopsIn, Takes, Unlocks, Up, accepted_in, answered_in, floor_in, floor_of, rows_under, seen_in, state_of, store_at, store_in_next_boot, store_raised, store_under, store_unlocked, store_with_rows};
+ghost use Rattle.book_law.specs.Promises.{AnswerTruly};
+ghost use Rattle.book_law.specs.Results.{results_in};
+
+use admit_core::{failures_are_spaced, gate_keeps_throttle};
+use oath_node::rulings_have_grounds;
+use vote_core::votes_are_safe;
+
+/// Safety of books: in every history of nodes, acceptances are safe, whatever terms its processes have.
+pub fn books_are_safe()
+    ensures single_use { (setting : Setting) (history : List Action) → IsHistory setting history
+        → HaveSingleUse (accepted_in setting history) }
+    ensures in_order { (setting : Setting) (history : List Action) → IsHistory setting history
+        → KeepRealTimeOrder (accepted_in setting history) }
+    ensures majority { (setting : Setting) (history : List Action) → IsHistory setting history
+        → HaveMajority setting.n (floor_in setting history) (accepted_in setting history) }
+    // Each offered answer that begins as an `OK` belongs to an acceptance of its node. The answer's client sent the
+    // line of the acceptance there.
+    ensures told { (setting : Setting) (history : List Action) → IsHistory setting history
+        → AnswerTruly setting history (answered_in setting history) }
+    // The line with which it began justifies each acceptance, under the terms of its process.
+    ensures justified { (setting : Setting) (history : List Action) → IsHistory setting history
+        → JustifiesAll setting history (accepted_in setting history) }
+    // The failures of a token at a node are far apart, whatever users files and limits its processes have. An
+    // acceptance or an unlocking of the token ends their count.
+    ensures spaced { (setting : Setting) (history : List Action) (node token : ℕ) → IsHistory setting history
+        → SpacesFailures (results_in setting history node token) }
+{
+    votes_are_safe();
+    rulings_have_grounds();
+    gate_keeps_throttle();
+    failures_are_spaced();
+}
+
+/// Worked cases.
+pub fn books_are_worked()
+    // Two processes with other orders of lines. The acceptance and the envelopes are under canonical tokens.
+    ensures two_orders { accepted_in three silver_accepted ≡ accepted 6 10 1 0 0 0 ∷ [] }
+    ensures answered { answered_in three silver_accepted ≡ told_outcome 10 1 7 (codes "1") (Accepted 0) ∷ [] }
+    ensures other_number { accepted_in alone maple_accepted ≡ accepted 3 3 1 1 0 0 ∷ [] }
+    ensures floor_before { floor_in three silver_accepted 2 0 8 ≡ 0 }
+    ensures floor_after { floor_in three silver_accepted 2 0 9 ≡ 1 }
+    ensures floor_of_another { floor_in three silver_accepted 2 1 9 ≡ 0 }
+    ensures floor_without_a_row { floor_in three silver_accepted 3 0 13 ≡ 0 }
+    // A user that went is unknown, and has her floor when she comes back.
+    ensures gone { answered_in three silver_goes ≡ told_outcome 10 1 7 (codes "1") (Accepted 0)
+        ∷ told_outcome 15 1 7 (codes "1") (Refused Unknown) ∷ [] }
+    ensures floor_of_the_gone { floor_in three silver_goes 1 0 17 ≡ 1 }
+    ensures back { answered_in three silver_returns ≡ told_outcome 10 1 7 (codes "1") (Accepted 0)
+        ∷ told_outcome 15 1 7 (codes "1") (Refused Unknown) ∷ told_outcome 19 1 7 (codes "1") (Refused Invalid) ∷ [] }
+    ensures another_key { accepted_in three under_another_key ≡ [] }
+    ensures floor_under_another_key { floor_in three under_another_key 2 0 9 ≡ 0 }
+    ensures old_envelope { floor_in three_with_old old_floor_comes 1 0 6 ≡ 4 }
+    ensures old_envelope_for_another { floor_in three_with_old old_floor_comes 1 1 6 ≡ 0 }
+
+    // What a process sees of a store, and what it leaves.
+    ensures seen { seen_in (two_rows (Some (pass_at 1))) (3 ∷ 5 ∷ [])
+        ≡ record { rows = row_from 30 ∷ row_from 50 ∷ []; boot = 4; last = Some (pass_at 0) } }
+    ensures seen_alone { seen_in (two_rows (Some (pass_at 0))) (3 ∷ [])
+        ≡ record { rows = row_from 30 ∷ []; boot = 4; last = None } }
+    ensures left { store_under (3 ∷ []) (one_row (Some (pass_at 0))) (two_rows (Some (pass_at 0)))
+        ≡ record {
+          names = 5 ∷ 3 ∷ [];
+          content = record {
+            rows = row_from 50 ∷ row_from 31 ∷ [];
+            boot = 5;
+            last = Some (pass_at 1);
+          };
+        } }
+    ensures left_unseen { store_under (3 ∷ []) (one_row None) (two_rows (Some (pass_at 0)))
+        ≡ record {
+          names = 5 ∷ 3 ∷ [];
+          content = record {
+            rows = row_from 50 ∷ row_from 31 ∷ [];
+            boot = 5;
+            last = Some (pass_at 0);
+          };
+        } }
+    ensures left_with_fewer_rows { rows_under (0 ∷ 1 ∷ []) (row_from 9 ∷ []) (row_from 1 ∷ row_from 2 ∷ [])
+        ≡ row_from 9 ∷ row_from 2 ∷ [] }
+    ensures floors { map (floor_of (two_rows None)) (3 ∷ 4 ∷ 5 ∷ []) ≡ 30 ∷ 0 ∷ 50 ∷ [] }
+    ensures unlocked { store_unlocked 3 shut_rows ≡ two_rows None }
+    ensures unlocked_without_a_row { store_unlocked 4 shut_rows ≡ shut_rows }
+    ensures raised { map (floor_of (store_raised 3 40 (two_rows None))) (3 ∷ 5 ∷ []) ≡ 40 ∷ 50 ∷ [] }
+    ensures raised_lower { store_raised 3 20 (two_rows None) ≡ two_rows None }
+    ensures raised_without_a_row { store_raised 4 20 (two_rows None) ≡ two_rows None }
+
+    // A process opens under terms that fit its store.
+    ensures opens { process_of_1 (has_silver ++ Opens 1 silver_alone ∷ [])
+        ≡ Up silver_alone (store_of_1 has_silver) (opened_node (seen_in (store_of_1 has_silver) (0 ∷ []))) [] }
+    ensures no_row { process_of_1 (has_silver ++ Opens 1 maple_alone ∷ []) ≡ process_of_1 has_silver }
+    ensures equal_tokens { process_of_1 (has_silver ++ Opens 1 (terms_of first_key (silver ∷ maple ∷ [])
+        (0 ∷ 0 ∷ [])) ∷ []) ≡ process_of_1 has_silver }
+    ensures too_few_seats { process_of_1 (has_silver ++ Opens 1 (terms_of first_key (silver ∷ maple ∷ [])
+        (0 ∷ [])) ∷ []) ≡ process_of_1 has_silver }
+    ensures one_process { process_of_1 (takes_silver ++ Opens 1 silver_alone ∷ FailsToOpen 1 true ∷ Enrols 1 1 0
+        ∷ Unlocks 1 0 ∷ Raises 1 0 9 ∷ []) ≡ process_of_1 takes_silver }
+    ensures last_boot_opens { (store_at ((state_of late (has_silver ++ Opens 1 silver_alone ∷ Stops 1
+        ∷ Opens 1 silver_alone ∷ FailsToOpen 1 true ∷ [])).processes 1)).content.boot ≡ last_boot }
+    ensures fails_raised { (store_of_1 (FailsToOpen 1 true ∷ [])).content.boot ≡ 1 }
+    ensures fails_early { (store_of_1 (FailsToOpen 1 false ∷ [])).content.boot ≡ 0 }
+    ensures nobody { process_of_1 (has_silver ++ Takes 1 silver_line ∷ Offers 1 ∷ Stops 1
+        ∷ StopsIn 1 true silver_line ∷ []) ≡ process_of_1 has_silver }
+    ensures nothing_to_offer { process_of_1 (has_silver ++ Opens 1 silver_alone ∷ Offers 1 ∷ [])
+        ≡ process_of_1 (has_silver ++ Opens 1 silver_alone ∷ []) }
+    ensures no_member { state_of alone (Enrols 0 0 0 ∷ Enrols 2 0 0 ∷ Opens 2 silver_alone ∷ []) ≡ state_of alone [] }
+    ensures kept { map (floor_of (store_of_1 (ends_in_the_step true))) (0 ∷ []) ≡ 1 ∷ [] }
+    ensures kept_pass { accepted_in alone (ends_in_the_step true) ≡ accepted 2 2 1 0 0 0 ∷ [] }
+    ensures dropped { map (floor_of (store_of_1 (ends_in_the_step false))) (0 ∷ []) ≡ 0 ∷ [] }
+    ensures dropped_pass { accepted_in alone (ends_in_the_step false) ≡ [] }
+    ensures stopped { store_of_1 (takes_silver ++ Stops 1 ∷ []) ≡ store_of_1 takes_silver }
+
+    // A row for a token, once, and only for a canonical one.
+    ensures enrols { (store_of_1 has_silver).names ≡ 0 ∷ [] }
+    ensures enrols_more { (store_of_1 (Enrols 1 1 4 ∷ has_silver)).names ≡ 1 ∷ 0 ∷ [] }
+    ensures enrols_again { store_of_1 (has_silver ++ Enrols 1 0 5 ∷ []) ≡ store_of_1 has_silver }
+    ensures enrols_unknown { store_of_1 (has_silver ++ Enrols 1 2 5 ∷ []) ≡ store_of_1 has_silver }
+
+    // A lost node, and its replacement store.
+    ensures lost { (state_of three loses_one).processes 1
+        ≡ Down (store_in_next_boot (store_at ((state_of three silver_accepted).processes 1))) }
+    ensures lost_acts_not { (state_of three (loses_one ++ Opens 1 silver_first ∷ Loses 1 ∷ [])).processes 1
+        ≡ (state_of three loses_one).processes 1 }
+    ensures least { map (state_of three loses_one).least (0 ∷ 1 ∷ []) ≡ 1 ∷ 0 ∷ [] }
+    ensures remade { (state_of three (remade_with 2 (1 ∷ 0 ∷ []) 1)).processes 1
+        ≡ Down (store_with_rows 2 (1 ∷ 0 ∷ []) (λ token. 1)) }
+    ensures remade_has_its_store { (state_of three (remade_with 2 (0 ∷ []) 1)).lost 1 ≡ false }
+    ensures remade_too_low { (state_of three (remade_with 2 (0 ∷ []) 0)).lost 1 ≡ true }
+    ensures remade_without { (state_of three (remade_with 2 (1 ∷ []) 9)).lost 1 ≡ true }
+    ensures remade_unknown { (state_of three (remade_with 2 (0 ∷ 2 ∷ []) 1)).lost 1 ≡ true }
+    ensures remade_twice { (state_of three (remade_with 2 (0 ∷ 0 ∷ []) 1)).lost 1 ≡ true }
+    ensures remade_in_a_used_boot { (state_of three (remade_with 1 (0 ∷ []) 1)).lost 1 ≡ true }
+    ensures remade_past_the_last_boot { (state_of three (remade_with (suc last_boot) (0 ∷ []) 1)).lost 1 ≡ true }
+    ensures remade_without_a_majority { (state_of three (loses_one ++ Loses 2 ∷ Remakes 1 2 (0 ∷ []) (λ token. 1)
+        ∷ [])).lost 1 ≡ true }
+    ensures remade_unlost { (state_of three (silver_accepted ++ Remakes 2 2 (0 ∷ []) (λ token. 1) ∷ [])).processes 2
+        ≡ (state_of three silver_accepted).processes 2 }
+
+    // Results, by any numbers.
+    ensures failures { results_in alone fails_twice 1 0 ≡ Failed 105 ∷ Failed 100 ∷ [] }
+    ensures failures_of_another { results_in alone fails_twice 1 1 ≡ [] }
+    ensures failures_elsewhere { results_in alone fails_twice 2 0 ≡ [] }
+    ensures passed { results_in alone takes_silver 1 0 ≡ Passed ∷ [] }
+    ensures passed_in_a_stop { results_in alone (ends_in_the_step true) 1 0 ≡ Passed ∷ [] }
+    ensures not_passed_in_a_stop { results_in alone (ends_in_the_step false) 1 0 ≡ [] }
+    ensures unlocking { results_in alone (fails_twice ++ Unlocks 1 0 ∷ []) 1 0 ≡ Passed ∷ Failed 105 ∷ Failed 100 ∷ [] }
+    ensures unlocking_of_another { results_in alone (fails_twice ++ Unlocks 1 1 ∷ []) 1 0 ≡ Failed 105 ∷ Failed 100 ∷ [] }
+    ensures unlocking_without_a_row { results_in alone (has_silver ++ Unlocks 1 1 ∷ []) 1 1 ≡ [] }
+    ensures unlocking_of_a_served_store { results_in alone (takes_silver ++ Unlocks 1 0 ∷ []) 1 0 ≡ Passed ∷ [] }
+    ensures results_of_a_lost_store { results_in three loses_one 1 0 ≡ Passed ∷ [] }
+    ensures results_of_a_replacement { results_in three (remade_with 2 (0 ∷ []) 1) 1 0 ≡ [] }
+    ensures results_of_no_member { results_in alone (Unlocks 0 0 ∷ []) 0 0 ≡ [] }
+{}
+
+/// Counterexamples: each condition of a history fails for a minimal one, and each condition of its rules is needed.
+pub fn books_can_be_broken()
+    ensures history { IsHistory three (ask_comes maple_first (ask_for 1)) }
+    ensures early { IsHistory three ask_comes_early → ⊥ }
+    ensures under_another_key { IsHistory three (ask_comes other_key (ask_for 1)) → ⊥ }
+    ensures of_another_token { IsHistory three (ask_comes maple_first (ask_for 0)) → ⊥ }
+    ensures never_made { IsHistory three forged → ⊥ }
+    ensures never_made_in_a_stop { IsHistory three forged_in_a_stop → ⊥ }
+    ensures from_another { IsHistory three from_another }
+    ensures unknown_number { IsHistory three unknown_number }
+    ensures to_nobody { IsHistory three to_nobody }
+    ensures of_a_boot_before { IsHistory (old_grant 2) [] }
+    ensures of_the_boot { IsHistory (old_grant 1) [] → ⊥ }
+
+    // A factor is accepted twice by a node that breaks one rule.
+    ensures equal_seats { HaveSingleUse (taken_from equal_seats takes_both) → ⊥ }
+    ensures seat_without_a_row { HaveSingleUse (taken_from no_row takes_and_enrols) → ⊥ }
+    ensures second_row { HaveSingleUse (taken_later two_rows_of_silver takes_again) → ⊥ }
+    ensures one_row { taken_later taken takes_again ≡ accepted 2 2 1 0 0 0 ∷ [] }
+{}

@@ -1,0 +1,9 @@
+//! The histories of nodes whose users files, settings and keys change, and the law about all of them.
+//!
+//! In a history processes open the stores of nodes, each under terms of its own: a book, limits, a key and seats. The
+//! promises about acceptances and answers hold in every history.
+#![tactic(auto)]
+
+mod laws;
+
+pub use laws::{books_are_safe, books_are_worked, books_can_be_broken};
