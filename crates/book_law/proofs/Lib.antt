@@ -6,7 +6,9 @@ pub mod Gates
 pub mod Justified
 pub mod Opened
 pub mod Results
+pub mod Serving
 pub mod Stores
 pub mod Told
 pub mod Under
+pub mod Uses
 pub mod Walk

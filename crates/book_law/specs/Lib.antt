@@ -4,3 +4,4 @@ pub mod Justified
 pub mod Lives
 pub mod Promises
 pub mod Results
+pub mod Uses

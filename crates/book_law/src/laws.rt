@@ -10,13 +10,14 @@ ghost use Rattle.oath_node.specs.Machine.{opened_node};
 ghost use Rattle.otp_core.specs.Acceptance.{HaveSingleUse, KeepRealTimeOrder};
 ghost use Rattle.vote_core.specs.Cases.{accepted};
 ghost use Rattle.vote_core.specs.Safety.{HaveMajority};
-ghost use Rattle.vote_core.specs.Schedule.{last_boot};
+ghost use Rattle.vote_core.specs.Schedule.{is_member, last_boot};
 ghost use Rattle.book_law.specs.Broken.{ask_comes, ask_comes_early, equal_seats, forged, forged_in_a_stop, from_another, no_row, old_grant, taken, taken_from, taken_later, takes_again, takes_and_enrols, takes_both, to_nobody, two_rows_of_silver, unknown_number};
 ghost use Rattle.book_law.specs.Examples.{alone, ask_for, ends_in_the_step, fails_twice, first_key, has_silver, late, loses_one, maple, maple_accepted, maple_alone, maple_first, old_floor_comes, one_row, other_key, pass_at, process_of_1, remade_with, row_from, shut_rows, silver, silver_accepted, silver_alone, silver_first, silver_goes, silver_line, silver_returns, store_of_1, takes_silver, terms_of, three, three_with_old, two_rows, under_another_key};
 ghost use Rattle.book_law.specs.Justified.{JustifiesAll};
 ghost use Rattle.book_law.specs.Lives.{Action, Down, Enrols, FailsToOpen, IsHistory, Loses, Offers, Opens, Raises, Remakes, Setting, Stops, StopsIn, Takes, Unlocks, Up, accepted_in, answered_in, floor_in, floor_of, rows_under, seen_in, state_of, store_at, store_in_next_boot, store_raised, store_under, store_unlocked, store_with_rows};
 ghost use Rattle.book_law.specs.Promises.{AnswerTruly};
 ghost use Rattle.book_law.specs.Results.{results_in};
+ghost use Rattle.book_law.specs.Uses.{AreAllUses, HasHistory, IsHistoryOf, StoreUse, first_store, store_after};
 
 use admit_core::{failures_are_spaced, gate_keeps_throttle};
 use oath_node::rulings_have_grounds;
@@ -47,6 +48,20 @@ pub fn books_are_safe()
     gate_keeps_throttle();
     failures_are_spaced();
 }
+
+/// One history: the processes and commands of all nodes, each on what the one before it left, have a history.
+///
+/// If no envelope is forged in it, all promises of histories hold of these processes.
+pub fn uses_make_histories()
+    ensures history { (setting : Setting) (uses : ℕ → List StoreUse) → AreAllUses setting uses
+        → HasHistory setting uses }
+    // In each history of them, in any order between the nodes, each member's store has at the end what its last use
+    // left.
+    ensures stores { (setting : Setting) (uses : ℕ → List StoreUse) (history : List Action) (node : ℕ)
+        → AreAllUses setting uses → IsHistoryOf setting uses history → is_member setting.n node ≡ true
+        → (state_of setting history).processes node
+        ≡ Down (store_after setting (uses node) (first_store setting node)) }
+{}
 
 /// Worked cases.
 pub fn books_are_worked()

@@ -6,4 +6,4 @@
 
 mod laws;
 
-pub use laws::{books_are_safe, books_are_worked, books_can_be_broken};
+pub use laws::{books_are_safe, books_are_worked, books_can_be_broken, uses_make_histories};
