@@ -12,16 +12,19 @@ use Rattle.oath_node.specs.Machine.{NodeEvent, Client, Peer}
 use Rattle.cluster_sim.specs.Examples.{config_with, user_named}
 use Rattle.book_law.specs.Lives.{Action, Opens, Takes, Offers, Stops, StopsIn, Loses, Remakes, Enrols, Process, Sealed, Setting, Store, Terms, state_of, store_at}
 
+-- a user with an event token
 abbrev pub silver : Credential
 silver = user_named (codes "silver")
 
+-- another user
 abbrev pub maple : Credential
 maple = user_named (codes "maple")
 
--- the keys of two clusters
+-- the key of a cluster
 abbrev pub first_key : List ℕ
 first_key = 1 ∷ []
 
+-- the key of another cluster
 abbrev pub second_key : List ℕ
 second_key = 2 ∷ []
 
@@ -29,10 +32,11 @@ second_key = 2 ∷ []
 abbrev pub terms_of : List ℕ → List Credential → List ℕ → Terms
 terms_of key book seats = record { config = config_with book; key = key; seats = seats }
 
--- silver's line stands first in the users file, or maple's
+-- terms with both users, silver first
 abbrev pub silver_first : Terms
 silver_first = terms_of first_key (silver ∷ maple ∷ []) (0 ∷ 1 ∷ [])
 
+-- the same users in the other order
 abbrev pub maple_first : Terms
 maple_first = terms_of first_key (maple ∷ silver ∷ []) (1 ∷ 0 ∷ [])
 
@@ -56,10 +60,11 @@ enrolled = Enrols 1 0 0 ∷ Enrols 1 1 0 ∷ Enrols 2 0 0 ∷ Enrols 2 1 0 ∷ [
 abbrev pub line : List ℕ → NodeEvent
 line text = Client 7 100 text
 
--- the first code of each user
+-- silver's line with her code of factor 0
 abbrev pub silver_line : NodeEvent
 silver_line = line (codes "CHECK 1 silver 755224 -")
 
+-- maple's line with her code of factor 0
 abbrev pub maple_line : NodeEvent
 maple_line = line (codes "CHECK 2 maple 755224 -")
 
@@ -72,10 +77,11 @@ abbrev pub from_peer : ℕ → ℕ → Message → NodeEvent
 from_peer sender receiver message =
     Peer sender (Some (record { sender = sender; receiver = receiver; message = message }))
 
--- node 1's Ask for factor 0 at node 2, and node 2's Grant, for the number that the reader has for silver
+-- node 1's Ask of factor 0 for its first proposal, under a number of node 2
 abbrev pub ask_for : ℕ → NodeEvent
 ask_for number = from_peer 1 2 (Ask (proposal_of_boot 1 1) number (span_of 0 0))
 
+-- node 2's Grant of factor 0 for the first proposal of node 1, under a number of node 1
 abbrev pub grant_for : ℕ → NodeEvent
 grant_for number = from_peer 2 1 (Grant (proposal_of_boot 1 1) number (span_of 0 0))
 
@@ -93,6 +99,7 @@ silver_accepted =
 abbrev pub alone : Setting
 alone = record { n = 1; tokens = 2; boots = []; old = [] }
 
+-- node 1 alone accepts maple, whose number isn't her canonical one
 abbrev pub maple_accepted : List Action
 maple_accepted =
     Enrols 1 0 0 ∷ Enrols 1 1 0 ∷ Opens 1 maple_first ∷ Takes 1 maple_line ∷ Offers 1 ∷ []
@@ -102,6 +109,7 @@ maple_accepted =
 abbrev pub silver_goes : List Action
 silver_goes = silver_accepted ++ Stops 1 ∷ Opens 1 maple_alone ∷ Takes 1 silver_line ∷ Offers 1 ∷ []
 
+-- silver is back in the users file, in another place, and her line comes again
 abbrev pub silver_returns : List Action
 silver_returns = silver_goes ++ Stops 1 ∷ Opens 1 maple_first ∷ Takes 1 silver_line ∷ Offers 1 ∷ []
 
@@ -114,6 +122,7 @@ under_another_key =
 abbrev pub old_floor : Sealed
 old_floor = record { key = first_key; envelope = record { sender = 2; receiver = 1; message = Floor 0 4 } }
 
+-- three nodes, with a Floor of former times
 abbrev pub three_with_old : Setting
 three_with_old = record three { old = old_floor ∷ [] }
 
