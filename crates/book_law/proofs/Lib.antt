@@ -1,11 +1,14 @@
 pub mod Actions
 pub mod Commands
 pub mod Effects
+pub mod Events
 pub mod Fits
 pub mod Gates
 pub mod Justified
 pub mod Opened
+pub mod Recorded
 pub mod Results
+pub mod Served
 pub mod Serving
 pub mod Stores
 pub mod Told

@@ -1,16 +1,15 @@
 -- A process in a history, by itself: its state after its own actions, and what it offers.
-use Rattle.std.proofs.Common.{◌≡◌, ℕ, zero, suc, ◌+◌, ◌≤◌, ◌⊎◌, ⊎_elim, Bool, true, false, not, ◌&&◌, ◌||◌, cond, List, [], ◌∷◌, ◌++◌, length, map, Option, Some, None, refl, sym, ap, ◌∙◌, subst, eqb, ltb}
-use Rattle.std.proofs.lemmas.Bool.{cond_both, cond-true, cond-false, cases_Bool, eq-eqb, eqb-true, ne_eqb}
+use Rattle.std.proofs.Common.{◌≡◌, ℕ, suc, ⊎_elim, Bool, true, false, not, ◌&&◌, ◌||◌, cond, List, [], ◌∷◌, ◌++◌, map, refl, sym, ap, ◌∙◌, subst, eqb}
+use Rattle.std.proofs.lemmas.Bool.{cond_both, cond-true, cond-false, cases_Bool, eqb-true, ne_eqb}
 use Rattle.std.proofs.lemmas.List.{append-nil, append_assoc, map-append}
-use Rattle.vote_core.specs.Schedule.{Envelope, envelope_from, is_member, last_boot}
+use Rattle.vote_core.specs.Schedule.{Envelope, envelope_from, is_member}
 use Rattle.vote_core.specs.declared.message.Message.{Message}
-use Rattle.oath_node.specs.Machine.{Made, NodeEvent, NodeState, Reply, opened_node}
+use Rattle.oath_node.specs.Machine.{Made, NodeEvent, NodeState, Reply}
 use Rattle.oath_node.specs.Outputs.{items_of, outputs_of}
-use Rattle.oath_node.specs.Turns.{Member, Run, offer_of, offers_in, run_at, run_with_event, run_with_events}
-use Rattle.datagram_port.specs.Port.{PortEvent}
+use Rattle.oath_node.specs.Turns.{Member, Run, offer_of, run_at, run_with_event, run_with_events}
 use Rattle.cluster_sim.specs.World.{Answer, told_reply}
-use Rattle.book_law.specs.Lives.{Action, Opens, FailsToOpen, Takes, Offers, Stops, StopsIn, Loses, Remakes, Enrols, Unlocks, Raises, Output, Process, Sealed, Setting, State, Store, Terms, ToClient, ToPeer, Down, Up, can_be, do_fit, has_store, lost_after, made_by_input, named_envelope, node_of_action, offers_by, outputs_of_step, place_in, process_after, process_opened, sealed_from, seen_in, state_after, state_after_action, state_with, store_at, store_under}
-use Rattle.book_law.specs.Uses.{OwnOutput, ToClientOwn, ToPeerOwn, offer_of_output, AreOffers, AreServing, AreUses, HasUses, IsIdle, IsProcess, IsServing, IsWriting, Serves, StoreUse, TakesAndOffers, Writes, input_of, inputs_at, member_at, named_output, own_offers, own_process, run_of, store_after, written_store}
+use Rattle.book_law.specs.Lives.{Action, Opens, FailsToOpen, Takes, Offers, Stops, StopsIn, Loses, Remakes, Enrols, Unlocks, Raises, Output, Process, Sealed, Setting, State, Store, Terms, ToClient, ToPeer, Up, can_be, has_store, lost_after, made_by_input, node_of_action, offers_by, outputs_of_step, place_in, process_after, sealed_from, state_after, state_after_action, state_with}
+use Rattle.book_law.specs.Uses.{OwnOutput, ToClientOwn, ToPeerOwn, offer_of_output, AreServing, IsServing, input_of, inputs_at, member_at, named_output, own_offers, own_process}
 
 -- ---- the state of a history has the node's own process
 
@@ -24,7 +23,7 @@ abbrev pub LeaveStore : ℕ → List Action → Type 0
 LeaveStore node [] = Unit {0}
 LeaveStore node (d ∷ ds) = LeavesStore node d × LeaveStore node ds
 
-action_at : (setting : Setting) (e node : ℕ) (d : Action) (state : State) → (node ≡ node_of_action d → can_be setting state d ≡ true)
+pub action_at : (setting : Setting) (e node : ℕ) (d : Action) (state : State) → (node ≡ node_of_action d → can_be setting state d ≡ true)
     → (state_after_action setting e d state).processes node ≡ cond (eqb node (node_of_action d)) (process_after setting e d (state.processes node)) (state.processes node)
 unfolding state_after_action
 action_at setting e node d state can =
@@ -43,7 +42,7 @@ action_at setting e node d state can =
     (λ _. sym (cond-false (eqb node i) (process_after setting e d (state.processes node)) (state.processes node) q)))
     (cases_Bool (eqb node i))
 
-can_there : (setting : Setting) (state : State) (node : ℕ) (d : Action) → has_store setting state node ≡ true → LeavesStore node d → node ≡ node_of_action d → can_be setting state d ≡ true
+pub can_there : (setting : Setting) (state : State) (node : ℕ) (d : Action) → has_store setting state node ≡ true → LeavesStore node d → node ≡ node_of_action d → can_be setting state d ≡ true
 can_there setting state node (Opens i terms) store leaves own = subst (λ m. has_store setting state m ≡ true) own store
 can_there setting state node (FailsToOpen i raised) store leaves own = subst (λ m. has_store setting state m ≡ true) own store
 can_there setting state node (Takes i input) store leaves own = subst (λ m. has_store setting state m ≡ true) own store
@@ -69,7 +68,7 @@ lost_left node (Raises i token floor) lost leaves = refl
 lost_left node (Loses i) lost leaves = ap (λ b. b || lost node) (ne_eqb node i leaves)
 lost_left node (Remakes i boot given floor) lost leaves = ap (λ b. not b && lost node) (ne_eqb node i leaves)
 
-store_left : (setting : Setting) (e node : ℕ) (d : Action) (state : State) → has_store setting state node ≡ true → LeavesStore node d → has_store setting (state_after_action setting e d state) node ≡ true
+pub store_left : (setting : Setting) (e node : ℕ) (d : Action) (state : State) → has_store setting state node ≡ true → LeavesStore node d → has_store setting (state_after_action setting e d state) node ≡ true
 unfolding state_after_action
 store_left setting e node d state store leaves =
     cond_both (can_be setting state d) (state_with setting e d (state.processes (node_of_action d)) state) state (λ (z : State). has_store setting z node ≡ true)

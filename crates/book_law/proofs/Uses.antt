@@ -5,15 +5,15 @@ use Rattle.std.proofs.lemmas.List.{append-nil, append_assoc}
 use Rattle.floor_store.specs.Content.{Content}
 use Rattle.vote_core.specs.Schedule.{is_member, last_boot}
 use Rattle.oath_node.specs.Machine.{NodeEvent, NodeState, opened_node}
-use Rattle.oath_node.specs.Turns.{Run, offers_in, run_at, run_with_events}
+use Rattle.oath_node.specs.Turns.{offers_in, run_at, run_with_events}
 use Rattle.datagram_port.specs.Port.{PortEvent}
-use Rattle.book_law.specs.Lives.{Action, Opens, FailsToOpen, Takes, Offers, Stops, StopsIn, Loses, Remakes, Enrols, Unlocks, Raises, Output, Process, Setting, State, Store, Terms, Down, Up, do_fit, first_state, may_enrol, node_of_action, offers_by, process_after, process_opened, seen_in, state_of, store_at, store_in_next_boot, store_under, store_with_row}
-use Rattle.book_law.specs.Uses.{OwnOutput, offer_of_output, AreAllUses, AreOffers, AreServing, AreUses, HasHistory, HasUses, IsHistoryOf, IsIdle, IsProcess, IsServing, IsWriting, Serves, StoreUse, TakesAndOffers, Writes, first_store, input_of, inputs_at, member_at, named_output, own_offers, own_process, run_of, store_after, written_store}
-use Rattle.book_law.proofs.Serving.{GoesOn, LeaveStore, LeavesStore, process_is_own, serves}
+use Rattle.book_law.specs.Lives.{Action, Opens, FailsToOpen, Takes, Offers, Stops, StopsIn, Loses, Remakes, Enrols, Unlocks, Raises, Process, Setting, Store, Terms, Down, Up, do_fit, first_state, may_enrol, node_of_action, offers_by, process_after, process_opened, seen_in, state_of, store_at, store_in_next_boot, store_under, store_with_row}
+use Rattle.book_law.specs.Uses.{OwnOutput, offer_of_output, AreAllUses, AreOffers, AreServing, AreUses, HasHistory, HasUses, IsHistoryOf, IsIdle, IsProcess, IsServing, IsWriting, Serves, StoreUse, TakesAndOffers, Writes, first_store, inputs_at, member_at, named_output, own_offers, own_process, run_of, store_after, written_store}
+use Rattle.book_law.proofs.Serving.{LeaveStore, LeavesStore, process_is_own, serves}
 
 -- ---- own actions, one part after the other
 
-abbrev number_after : List Action → ℕ → ℕ
+abbrev pub number_after : List Action → ℕ → ℕ
 number_after [] e = e
 number_after (d ∷ ds) e = number_after ds (suc e)
 
@@ -22,7 +22,7 @@ unfolding own_process
 process_append setting node e [] ys p = refl
 process_append setting node e (d ∷ ds) ys p = process_append setting node (suc e) ds ys (cond (eqb node (node_of_action d)) (process_after setting e d p) p)
 
-offers_append : (setting : Setting) (node e : ℕ) (xs ys : List Action) (p : Process)
+pub offers_append : (setting : Setting) (node e : ℕ) (xs ys : List Action) (p : Process)
     → own_offers setting node e (xs ++ ys) p ≡ own_offers setting node e xs p ++ own_offers setting node (number_after xs e) ys (own_process setting node e xs p)
 unfolding own_process own_offers
 offers_append setting node e [] ys p = refl
@@ -37,7 +37,7 @@ unfolding own_process
 own_first setting node e d ds p own =
     ap (λ q. own_process setting node (suc e) ds q) (cond-true (eqb node (node_of_action d)) (process_after setting e d p) p (eq-eqb node (node_of_action d) own))
 
-own_first_offers : (setting : Setting) (node e : ℕ) (d : Action) (ds : List Action) (p : Process) → node ≡ node_of_action d
+pub own_first_offers : (setting : Setting) (node e : ℕ) (d : Action) (ds : List Action) (p : Process) → node ≡ node_of_action d
     → own_offers setting node e (d ∷ ds) p ≡ offers_by d p ++ own_offers setting node (suc e) ds (process_after setting e d p)
 unfolding own_process own_offers
 own_first_offers setting node e d ds p own =
@@ -46,7 +46,7 @@ own_first_offers setting node e d ds p own =
     ap (λ os. os ++ own_offers setting node (suc e) ds (cond b (process_after setting e d p) p)) (cond-true b (offers_by d p) [] is)
     ∙ ap (λ q. offers_by d p ++ own_offers setting node (suc e) ds q) (cond-true b (process_after setting e d p) p is)
 
-idle_process : (setting : Setting) (node e : ℕ) (ds : List Action) (p : Process) → IsIdle node ds → own_process setting node e ds p ≡ p
+pub idle_process : (setting : Setting) (node e : ℕ) (ds : List Action) (p : Process) → IsIdle node ds → own_process setting node e ds p ≡ p
 unfolding own_process
 idle_process setting node e [] p idle = refl
 idle_process setting node e (d ∷ ds) p idle =
@@ -59,7 +59,7 @@ after_idle setting node e xs ys p idle =
 
 -- ---- one use
 
-opened_is : (terms : Terms) (store : Store) → do_fit terms store ≡ true → ltb store.content.boot last_boot ≡ true → process_opened terms store ≡ Up terms store (opened_node (seen_in store terms.seats)) []
+pub opened_is : (terms : Terms) (store : Store) → do_fit terms store ≡ true → ltb store.content.boot last_boot ≡ true → process_opened terms store ≡ Up terms store (opened_node (seen_in store terms.seats)) []
 opened_is terms store fits low =
     cond-true (do_fit terms store && ltb store.content.boot last_boot) (Up terms store (opened_node (seen_in store terms.seats)) []) (Down store) (and_from (do_fit terms store) (ltb store.content.boot last_boot) fits low)
 
@@ -87,7 +87,7 @@ cond_down : (b : Bool) (one other : Store) → cond b (Down one) (Down other) �
 cond_down true one other = refl
 cond_down false one other = refl
 
-written_is : (setting : Setting) (node e : ℕ) (d : Action) (store : Store) → IsWriting node d → process_after setting e d (Down store) ≡ Down (written_store setting d store)
+pub written_is : (setting : Setting) (node e : ℕ) (d : Action) (store : Store) → IsWriting node d → process_after setting e d (Down store) ≡ Down (written_store setting d store)
 written_is setting node e (Opens at terms) store w = absurd w
 written_is setting node e (FailsToOpen at false) store w = refl
 written_is setting node e (FailsToOpen at true) store w = cond_down (ltb store.content.boot last_boot) (store_in_next_boot store) store
@@ -101,7 +101,7 @@ written_is setting node e (Enrols at token floor) store w = cond_down (may_enrol
 written_is setting node e (Unlocks at token) store w = refl
 written_is setting node e (Raises at token floor) store w = refl
 
-writing_node : (node : ℕ) (d : Action) → IsWriting node d → node_of_action d ≡ node
+pub writing_node : (node : ℕ) (d : Action) → IsWriting node d → node_of_action d ≡ node
 writing_node node (Opens at terms) w = absurd w
 writing_node node (FailsToOpen at raised) w = w
 writing_node node (Takes at input) w = absurd w
@@ -183,7 +183,7 @@ leave_append : (node : ℕ) (xs ys : List Action) → LeaveStore node xs → Lea
 leave_append node [] ys h k = k
 leave_append node (x ∷ xs) ys h k = (h.0, leave_append node xs ys h.1 k)
 
-uses_leave : (setting : Setting) (node : ℕ) (uses : List StoreUse) (store : Store) (actions : List Action) → AreUses setting node store uses → HasUses setting node store uses actions → LeaveStore node actions
+pub uses_leave : (setting : Setting) (node : ℕ) (uses : List StoreUse) (store : Store) (actions : List Action) → AreUses setting node store uses → HasUses setting node store uses actions → LeaveStore node actions
 uses_leave setting node [] store actions are has = all_idle node actions has
 uses_leave setting node (Serves terms port taken entries left ∷ uses) store actions are has =
     let rest = uses_leave setting node uses (store_under terms.seats left store) has.2 are.1 has.6 in

@@ -1,30 +1,34 @@
 -- Worked histories of three nodes and two users, silver and maple. Silver is canonical token 0, and maple token 1. Each
 -- has the secret of RFC 4226, Appendix D. Floor: the first free factor of a token at a node.
-use Rattle.std.specs.Prelude.{ℕ, ◌-◌, Bool, List, [], ◌∷◌, ◌++◌, Option, Some, None, codes}
+use Rattle.std.specs.Prelude.{ℕ, ◌-◌, pos, Bool, true, List, [], ◌∷◌, ◌++◌, Option, Some, None, codes}
 use Rattle.floor_store.specs.Content.{Content, opening_row}
 use Rattle.floor_store.specs.Records.{PassRecord, ProposalRecord, RowRecord, span_of}
 use Rattle.token_file.specs.Credential.{Credential}
+use Rattle.otp_core.specs.Acceptance.{Acceptance}
+use Rattle.client_lines.specs.declared.answer.Outcome.TheVariants.{Accepted}
+use Rattle.vote_core.specs.Cases.{accepted}
 use Rattle.vote_core.specs.Schedule.{content_with_gate, last_boot}
 use Rattle.vote_core.specs.Voting.{pass_of}
 use Rattle.vote_core.specs.declared.message.Message.{Message}
 use Rattle.vote_core.specs.declared.message.Message.TheVariants.{Ask, Grant, Floor}
 use Rattle.oath_node.specs.Machine.{NodeEvent, Client, Peer}
-use Rattle.cluster_sim.specs.Examples.{config_with, user_named}
-use Rattle.book_law.specs.Lives.{Action, Opens, Takes, Offers, Stops, StopsIn, Loses, Remakes, Enrols, Process, Sealed, Setting, Store, Terms, state_of, store_at}
+use Rattle.datagram_port.specs.Port.{Offered, Quiet}
+use Rattle.datagram_port.specs.declared.port.Sender.TheVariants.{Client as ToLine}
+use Rattle.cluster_sim.specs.Examples.{config_with, told_outcome, user_named}
+use Rattle.cluster_sim.specs.World.{Answer}
+use Rattle.book_law.specs.Lives.{Action, Opens, FailsToOpen, Takes, Offers, Stops, StopsIn, Loses, Remakes, Enrols, Unlocks, Raises, Process, Sealed, Setting, Store, Terms, state_of, store_at, store_with_rows}
+use Rattle.book_law.specs.Uses.{Serves as ServesStore, StoreUse, Writes}
 
--- a user with an event token
 abbrev pub silver : Credential
 silver = user_named (codes "silver")
 
--- another user
 abbrev pub maple : Credential
 maple = user_named (codes "maple")
 
--- the key of a cluster
+-- the keys of two clusters
 abbrev pub first_key : List ℕ
 first_key = 1 ∷ []
 
--- the key of another cluster
 abbrev pub second_key : List ℕ
 second_key = 2 ∷ []
 
@@ -32,11 +36,10 @@ second_key = 2 ∷ []
 abbrev pub terms_of : List ℕ → List Credential → List ℕ → Terms
 terms_of key book seats = record { config = config_with book; key = key; seats = seats }
 
--- terms with both users, silver first
+-- silver's line stands first in the users file, or maple's
 abbrev pub silver_first : Terms
 silver_first = terms_of first_key (silver ∷ maple ∷ []) (0 ∷ 1 ∷ [])
 
--- the same users in the other order
 abbrev pub maple_first : Terms
 maple_first = terms_of first_key (maple ∷ silver ∷ []) (1 ∷ 0 ∷ [])
 
@@ -60,11 +63,10 @@ enrolled = Enrols 1 0 0 ∷ Enrols 1 1 0 ∷ Enrols 2 0 0 ∷ Enrols 2 1 0 ∷ [
 abbrev pub line : List ℕ → NodeEvent
 line text = Client 7 100 text
 
--- silver's line with her code of factor 0
+-- the first code of each user
 abbrev pub silver_line : NodeEvent
 silver_line = line (codes "CHECK 1 silver 755224 -")
 
--- maple's line with her code of factor 0
 abbrev pub maple_line : NodeEvent
 maple_line = line (codes "CHECK 2 maple 755224 -")
 
@@ -77,11 +79,10 @@ abbrev pub from_peer : ℕ → ℕ → Message → NodeEvent
 from_peer sender receiver message =
     Peer sender (Some (record { sender = sender; receiver = receiver; message = message }))
 
--- node 1's Ask of factor 0 for its first proposal, under a number of node 2
+-- node 1's Ask for factor 0 at node 2, and node 2's Grant, for the number that the reader has for silver
 abbrev pub ask_for : ℕ → NodeEvent
 ask_for number = from_peer 1 2 (Ask (proposal_of_boot 1 1) number (span_of 0 0))
 
--- node 2's Grant of factor 0 for the first proposal of node 1, under a number of node 1
 abbrev pub grant_for : ℕ → NodeEvent
 grant_for number = from_peer 2 1 (Grant (proposal_of_boot 1 1) number (span_of 0 0))
 
@@ -99,7 +100,6 @@ silver_accepted =
 abbrev pub alone : Setting
 alone = record { n = 1; tokens = 2; boots = []; old = [] }
 
--- node 1 alone accepts maple, whose number isn't her canonical one
 abbrev pub maple_accepted : List Action
 maple_accepted =
     Enrols 1 0 0 ∷ Enrols 1 1 0 ∷ Opens 1 maple_first ∷ Takes 1 maple_line ∷ Offers 1 ∷ []
@@ -109,7 +109,6 @@ maple_accepted =
 abbrev pub silver_goes : List Action
 silver_goes = silver_accepted ++ Stops 1 ∷ Opens 1 maple_alone ∷ Takes 1 silver_line ∷ Offers 1 ∷ []
 
--- silver is back in the users file, in another place, and her line comes again
 abbrev pub silver_returns : List Action
 silver_returns = silver_goes ++ Stops 1 ∷ Opens 1 maple_first ∷ Takes 1 silver_line ∷ Offers 1 ∷ []
 
@@ -122,7 +121,6 @@ under_another_key =
 abbrev pub old_floor : Sealed
 old_floor = record { key = first_key; envelope = record { sender = 2; receiver = 1; message = Floor 0 4 } }
 
--- three nodes, with a Floor of former times
 abbrev pub three_with_old : Setting
 three_with_old = record three { old = old_floor ∷ [] }
 
@@ -204,3 +202,66 @@ abbrev pub fails_twice : List Action
 fails_twice =
     Enrols 1 0 0 ∷ Enrols 1 1 0 ∷ Opens 1 silver_first ∷ Takes 1 (wrong_at 100) ∷ Stops 1 ∷ Opens 1 maple_first
     ∷ Takes 1 (wrong_at 105) ∷ Stops 1 ∷ []
+
+-- ---- Answers and grounds
+
+abbrev pub silver_text : List ℕ
+silver_text = codes "CHECK 1 silver 755224 -"
+
+-- silver's line comes to node 1 alone, and its answer is offered
+abbrev pub answers_silver : List Action
+answers_silver = takes_silver ++ Offers 1 ∷ []
+
+-- the acceptance and the answer of this history
+abbrev pub silver_pass : Acceptance
+silver_pass = accepted 2 2 1 0 0 0
+
+abbrev pub silver_ok : Answer
+silver_ok = told_outcome 2 1 7 (codes "1") (Accepted 0)
+
+-- a wrong code arrives, and the right one 4 seconds later
+abbrev pub hurries : List Action
+hurries =
+    has_silver ++ Opens 1 silver_alone ∷ Takes 1 (wrong_at 100)
+    ∷ Takes 1 (Client 7 104 (codes "CHECK 4 silver 755224 -")) ∷ []
+
+-- a store whose first row has a drift
+abbrev pub drifted : Store
+drifted = record {
+  names = 3 ∷ 5 ∷ [];
+  content = record { rows = record (row_from 30) { drift = pos 2 } ∷ row_from 50 ∷ []; boot = 4; last = None };
+}
+
+-- ---- Uses
+
+-- the store of node 1 with silver's row
+abbrev pub silver_row : Store
+silver_row = store_with_rows 0 (0 ∷ []) (λ token. 0)
+
+-- two commands at node 1, and a process that left one row
+abbrev pub three_uses : List StoreUse
+three_uses =
+    Writes (Enrols 1 0 4) ∷ Writes (Raises 1 0 9) ∷ ServesStore silver_alone [] [] [] (one_row None) ∷ []
+
+-- two commands at node 1, among actions of node 2
+abbrev pub two_writes : List StoreUse
+two_writes = Writes (Enrols 1 0 0) ∷ Writes (FailsToOpen 1 true) ∷ []
+
+abbrev pub among_another : List Action
+among_another = Enrols 2 0 0 ∷ Enrols 1 0 0 ∷ Unlocks 2 0 ∷ FailsToOpen 1 true ∷ Offers 2 ∷ []
+
+-- a process of node 1 that took nothing
+abbrev pub idle_use : List StoreUse
+idle_use = ServesStore silver_alone [] [] [] (record { rows = row_from 0 ∷ []; boot = 1; last = None }) ∷ []
+
+abbrev pub idle_among_another : List Action
+idle_among_another = Offers 2 ∷ Opens 1 silver_alone ∷ Enrols 2 0 0 ∷ Offers 1 ∷ Stops 1 ∷ Stops 2 ∷ []
+
+-- two processes that recorded a reply each, and a command between them
+abbrev pub two_replies : List StoreUse
+two_replies =
+    ServesStore silver_alone [] [] (Quiet ∷ Offered (ToLine 7) silver_ok.bytes ∷ []) silver_row.content
+    ∷ Writes (Unlocks 1 0) ∷ ServesStore silver_alone [] [] (Offered (ToLine 8) [] ∷ []) silver_row.content ∷ []
+
+abbrev pub second_reply : Answer
+second_reply = record silver_ok { client = 8; bytes = [] }

@@ -451,8 +451,8 @@ AreGenuine setting first (action ∷ actions) state =
     IsGenuineAction state action
     × AreGenuine setting (suc first) actions (state_after_action setting first action state)
 
--- A history of nodes: actions without an envelope forged under a key. Envelopes from before fit, and are of boots before
--- those of the first stores.
+-- A history of nodes: actions without an envelope forged under a key. Envelopes from before fit, and are of boots
+-- before those of the first stores.
 pub record IsHistory (setting : Setting) (history : List Action) : Type 0 where
   pub starts : MayOpen setting.n setting.tokens
       (blank_opening (made_boot setting) (map (λ (sealed : Sealed). sealed.envelope) setting.old))

@@ -1,16 +1,20 @@
 -- The uses of the nodes' stores, as the contracts of the calls state them, and the histories with these uses. A process
 -- has its own numbers for tokens, also at its port, and a key of its own there. A translator below the port may turn
 -- numbers into names.
-use Rattle.std.specs.Prelude.{◌≡◌, ℕ, suc, ◌==◌, nat_lt, Bool, true, if◌then◌else◌, List, [], ◌∷◌, ◌++◌, length, map}
+use Rattle.std.specs.Prelude.{◌≡◌, ℕ, suc, ◌==◌, nat_lt, true, if◌then◌else◌, List, [], ◌∷◌, ◌++◌, map}
 use Rattle.floor_store.specs.Content.{Content}
-use Rattle.oath_node.specs.Machine.{NodeEvent, NodeState, opened_node}
+use Rattle.floor_store.specs.Held.{Held}
+use Rattle.seated_store.specs.Seated.{SeatedRecord}
+use Rattle.oath_node.specs.Hosted.{Hosted, config_of}
+use Rattle.oath_node.specs.Machine.{NodeEvent, opened_node}
 use Rattle.oath_node.specs.Turns.{Member, Receipt, Run, entry_of, events_of_turns, offers_in, receives_in, run_at, run_with_events}
 use Rattle.datagram_port.specs.Port.{Offered, PortEvent}
 use Rattle.vote_wire.specs.Datagram.{datagram_bytes}
 use Rattle.cluster_sim.specs.World.{Answer}
 use Rattle.vote_core.specs.Schedule.{Envelope, is_member, last_boot}
 use Rattle.datagram_port.specs.declared.port.Sender.TheVariants.{Client as ToLine, Peer as ToMember}
-use Rattle.book_law.specs.Lives.{Action, Opens, FailsToOpen, Takes, Offers, Stops, StopsIn, Loses, Remakes, Enrols, Unlocks, Raises, Output, Process, Sealed, Setting, State, Store, Terms, ToClient, ToPeer, Down, Up, do_fit, first_state, made_boot, named_envelope, node_of_action, offers_by, place_in, process_after, process_opened, seen_in, store_at, store_under, store_with_rows}
+use Rattle.book_law.specs.Lives.{Action, Opens, FailsToOpen, Takes, Offers, Stops, Enrols, Unlocks, Raises, Output, Process, Setting, Store, Terms, ToClient, ToPeer, Down, do_fit, made_boot, named_envelope, node_of_action, offers_by, place_in, places_of, process_after, process_opened, seen_in, store_at, store_under, store_with_rows}
+use Rattle.book_law.specs.Promises.{BelongsToAcceptance}
 
 -- ---- A process
 
@@ -38,12 +42,28 @@ pub record IsProcess (setting : Setting) (node : ℕ) (terms : Terms) (port : Li
   pub offers : (run_of setting node terms port found taken).entries ≡ offers_in entries ++ rest
   pub leaves : (run_of setting node terms port found taken).node.content ≡ left
 
+-- a process with these entries found a store, and left what it sees of it so
+pub record WasProcess (setting : Setting) (node : ℕ) (terms : Terms) (port : List ℕ) (found : Store)
+    (entries : List PortEvent) (left : Content) : Type 0 where
+  pub taken : List NodeEvent
+  pub is : IsProcess setting node terms port found taken entries left
+
+-- A node over a seated store is the process of the node under the terms, at its port's key. The store below has the
+-- content of `found`, and the seats of the terms' tokens there.
+pub record IsSeatedMember {S : Type 0} (held : S → Held) (setting : Setting) (node : ℕ) (terms : Terms) (port : List ℕ)
+    (found : Store) (store : SeatedRecord S) (process : Hosted (SeatedRecord S)) : Type 0 where
+  pub config : config_of process ≡ terms.config
+  pub key : process.key ≡ port
+  pub place : process.voter.place ≡ place_in setting node
+  pub fits : do_fit terms found ≡ true
+  pub content : found.content ≡ (held store.inner).content
+  pub seats : places_of found terms.seats ≡ store.seats
+
 -- ---- The uses of a store
 
 -- A use of a node's store.
 --   Serves: a process with the terms and the port's key took events of its machine. Its port recorded entries, and a
--- stop
---   left what it sees of the store. The rows without a seat stay.
+-- stop left what it sees of the store. The rows without a seat stay.
 --   Writes: a process failed to open the store, or a command wrote to it.
 pub data StoreUse : Type 0 where
   Serves : (terms : Terms) (port : List ℕ) (taken : List NodeEvent) (entries : List PortEvent) (left : Content)
@@ -186,3 +206,27 @@ IsHistoryOf setting uses history =
 pub record HasHistory (setting : Setting) (uses : ℕ → List StoreUse) : Type 0 where
   pub history : List Action
   pub is : IsHistoryOf setting uses history
+
+-- ---- What was offered
+
+-- the offers in the records of the processes, in order
+abbrev pub offers_recorded : List StoreUse → List PortEvent
+offers_recorded [] = []
+offers_recorded (Serves terms port taken entries left ∷ uses) = offers_in entries ++ offers_recorded uses
+offers_recorded (Writes action ∷ uses) = offers_recorded uses
+
+-- the outputs are what the ports of the processes recorded, in order
+abbrev pub AreOffersOfUses : List StoreUse → List Output → Type 0
+AreOffersOfUses [] outputs = outputs ≡ []
+AreOffersOfUses (Serves terms port taken entries left ∷ uses) outputs =
+    (first : List Output) × (rest : List Output) × (outputs ≡ first ++ rest)
+    × AreOffers terms port first (offers_in entries) × AreOffersOfUses uses rest
+AreOffersOfUses (Writes action ∷ uses) outputs = AreOffersOfUses uses outputs
+
+-- the reply of the node to the client belongs to an acceptance of that node in the history
+pub record IsTrueReply (setting : Setting) (history : List Action) (node client : ℕ) (bytes : List ℕ) : Type 0 where
+  pub answer : Answer
+  pub node_is : answer.node ≡ node
+  pub client_is : answer.client ≡ client
+  pub bytes_are : answer.bytes ≡ bytes
+  pub belongs : BelongsToAcceptance setting history answer

@@ -1,25 +1,39 @@
 //! The laws about every history of nodes whose users files, settings and keys change. Floor: the first free factor of a
 //! token at a node.
 
-ghost use Rattle.std.specs.Prelude.{◌≡◌, ℕ, suc, [], ◌∷◌, ◌++◌, List, false, true, map, Some, None, codes};
+ghost use Rattle.std.specs.Prelude.{◌≡◌, ◌-◌, ℕ, suc, pos, [], ◌∷◌, ◌++◌, List, false, true, map, Option, Some, None, Result, codes, slice_get};
 ghost use Rattle.admit_core.specs.Throttle.{Accepted as Passed, Failed, SpacesFailures};
 ghost use Rattle.client_lines.specs.declared.answer.Outcome.TheVariants.{Accepted, Refused};
 ghost use Rattle.client_lines.specs.declared.answer.Reason.TheVariants.{Invalid, Unknown};
+ghost use Rattle.cluster_sim.specs.Answered.{IsOk};
 ghost use Rattle.cluster_sim.specs.Examples.{told_outcome};
-ghost use Rattle.oath_node.specs.Machine.{opened_node};
-ghost use Rattle.otp_core.specs.Acceptance.{HaveSingleUse, KeepRealTimeOrder};
+ghost use Rattle.cluster_sim.specs.World.{Answer};
+ghost use Rattle.datagram_port.specs.Port.{Offered, PortEvent};
+ghost use Rattle.datagram_port.specs.declared.port.Sender.TheVariants.{Client as ToLine};
+ghost use Rattle.floor_store.specs.Content.{Content};
+ghost use Rattle.floor_store.specs.Range.{IsCount};
+ghost use Rattle.oath_node.specs.Calls.{IsOpened};
+ghost use Rattle.oath_node.specs.Hosted.{Hosted};
+ghost use Rattle.oath_node.specs.Machine.{NodeEvent, Tick, opened_node};
+ghost use Rattle.oath_node.specs.TurnServing.{Serves as ServesTurns};
+ghost use Rattle.oath_node.specs.declared.serve_fault.ServeFault.{ServeFault};
+ghost use Rattle.oath_node.specs.declared.turns.Served.{Served};
+ghost use Rattle.seated_store.specs.Seated.{SeatedRecord, seated_held};
+ghost use Rattle.otp_core.specs.Acceptance.{Acceptance, HaveSingleUse, KeepRealTimeOrder};
 ghost use Rattle.vote_core.specs.Cases.{accepted};
+ghost use Rattle.vote_core.specs.declared.message.Message.TheVariants.{Floor};
 ghost use Rattle.vote_core.specs.Safety.{HaveMajority};
 ghost use Rattle.vote_core.specs.Schedule.{is_member, last_boot};
 ghost use Rattle.book_law.specs.Broken.{ask_comes, ask_comes_early, equal_seats, forged, forged_in_a_stop, from_another, no_row, old_grant, taken, taken_from, taken_later, takes_again, takes_and_enrols, takes_both, to_nobody, two_rows_of_silver, unknown_number};
-ghost use Rattle.book_law.specs.Examples.{alone, ask_for, ends_in_the_step, fails_twice, first_key, has_silver, late, loses_one, maple, maple_accepted, maple_alone, maple_first, old_floor_comes, one_row, other_key, pass_at, process_of_1, remade_with, row_from, shut_rows, silver, silver_accepted, silver_alone, silver_first, silver_goes, silver_line, silver_returns, store_of_1, takes_silver, terms_of, three, three_with_old, two_rows, under_another_key};
-ghost use Rattle.book_law.specs.Justified.{JustifiesAll};
-ghost use Rattle.book_law.specs.Lives.{Action, Down, Enrols, FailsToOpen, IsHistory, Loses, Offers, Opens, Raises, Remakes, Setting, Stops, StopsIn, Takes, Unlocks, Up, accepted_in, answered_in, floor_in, floor_of, rows_under, seen_in, state_of, store_at, store_in_next_boot, store_raised, store_under, store_unlocked, store_with_rows};
-ghost use Rattle.book_law.specs.Promises.{AnswerTruly};
+ghost use Rattle.book_law.specs.Examples.{alone, among_another, answers_silver, ask_for, drifted, hurries, idle_among_another, idle_use, old_floor, second_reply, silver_ok, silver_pass, silver_row, silver_text, three_uses, two_replies, two_writes, ends_in_the_step, fails_twice, first_key, has_silver, late, loses_one, maple, maple_accepted, maple_alone, maple_first, old_floor_comes, one_row, other_key, pass_at, process_of_1, remade_with, row_from, shut_rows, silver, silver_accepted, silver_alone, silver_first, silver_goes, silver_line, silver_returns, store_of_1, takes_silver, terms_of, three, three_with_old, two_rows, under_another_key};
+ghost use Rattle.book_law.specs.Justified.{IsJustifiedInAction, JustifiesAll, drift_in, drift_of};
+ghost use Rattle.book_law.specs.Lives.{Action, Down, ToClient, ToPeer, Enrols, FailsToOpen, IsHistory, Loses, Offers, Opens, Raises, Remakes, Setting, Stops, StopsIn, Store, Takes, Terms, Unlocks, Up, accepted_in, answered_in, floor_in, floor_of, rows_under, seen_in, state_of, store_at, store_in_next_boot, store_raised, store_under, store_unlocked, store_with_rows};
+ghost use Rattle.book_law.specs.Promises.{AnswerTruly, BelongsToAcceptance, IsAskedInAction, IsSaidInAction};
 ghost use Rattle.book_law.specs.Results.{results_in};
-ghost use Rattle.book_law.specs.Uses.{AreAllUses, HasHistory, IsHistoryOf, StoreUse, first_store, store_after};
+ghost use Rattle.book_law.specs.Uses.{AreAllUses, AreOffersOfUses, AreServing, AreUses, HasHistory, HasUses, IsHistoryOf, IsProcess, IsSeatedMember, IsTrueReply, Serves as ServesStore, StoreUse, TakesAndOffers, ToClientOwn, ToPeerOwn, WasProcess, Writes, first_store, inputs_at, named_output, offer_of_output, offers_recorded, own_offers, own_process, store_after};
 
 use admit_core::{failures_are_spaced, gate_keeps_throttle};
+use floor_store::FloorStore;
 use oath_node::rulings_have_grounds;
 use vote_core::votes_are_safe;
 
@@ -49,6 +63,20 @@ pub fn books_are_safe()
     failures_are_spaced();
 }
 
+/// Processes: over any store, a process that `Node::open` opened over a seated store and `run_turns` served is a use.
+///
+/// It is one at every end of the turns, with everything that a stop leaves of what it sees.
+pub fn served_nodes_are_processes<S: FloorStore>()
+    ensures { (setting : Setting) (place : ℕ) (terms : Terms) (port : List ℕ) (found : Store) (store : SeatedRecord S)
+        (old new : Hosted (SeatedRecord S)) (entries : List PortEvent) (asked told : Option (List (Option ℕ)))
+        (turns : ℕ) (result : Result Served ServeFault) (content : Content)
+        → IsSeatedMember S.held setting place terms port found store old → IsOpened (seated_held S.held) store old
+        → (seated_held S.held old.store).is_clean → IsCount (seated_held S.held old.store).content.boot
+        → ServesTurns (seated_held S.held) old new (Some []) (Some entries) asked told turns result
+        → (seated_held S.held new.store).is_clean → (seated_held S.held new.store).leaves content
+        → WasProcess setting place terms port found entries content }
+{}
+
 /// One history: the processes and commands of all nodes, each on what the one before it left, have a history.
 ///
 /// If no envelope is forged in it, all promises of histories hold of these processes.
@@ -61,7 +89,19 @@ pub fn uses_make_histories()
         → AreAllUses setting uses → IsHistoryOf setting uses history → is_member setting.n node ≡ true
         → (state_of setting history).processes node
         ≡ Down (store_after setting (uses node) (first_store setting node)) }
-{}
+    // Each member offers exactly what its ports recorded, in order.
+    ensures offers { (setting : Setting) (uses : ℕ → List StoreUse) (history : List Action) (node : ℕ)
+        → AreAllUses setting uses → IsHistoryOf setting uses history → is_member setting.n node ≡ true
+        → AreOffersOfUses (uses node) (own_offers setting node 0 history (Down (first_store setting node))) }
+    // Each recorded reply that begins as an `OK` belongs to an acceptance.
+    ensures told { (setting : Setting) (uses : ℕ → List StoreUse) (history : List Action) (node i client : ℕ)
+        (bytes : List ℕ) → AreAllUses setting uses → IsHistoryOf setting uses history
+        → is_member setting.n node ≡ true
+        → slice_get (offers_recorded (uses node)) i ≡ Some (Offered (ToLine client) bytes) → IsOk bytes
+        → IsTrueReply setting history node client bytes }
+{
+    rulings_have_grounds();
+}
 
 /// Worked cases.
 pub fn books_are_worked()
@@ -175,7 +215,8 @@ pub fn books_are_worked()
     ensures passed_in_a_stop { results_in alone (ends_in_the_step true) 1 0 ≡ Passed ∷ [] }
     ensures not_passed_in_a_stop { results_in alone (ends_in_the_step false) 1 0 ≡ [] }
     ensures unlocking { results_in alone (fails_twice ++ Unlocks 1 0 ∷ []) 1 0 ≡ Passed ∷ Failed 105 ∷ Failed 100 ∷ [] }
-    ensures unlocking_of_another { results_in alone (fails_twice ++ Unlocks 1 1 ∷ []) 1 0 ≡ Failed 105 ∷ Failed 100 ∷ [] }
+    ensures unlocking_of_another { results_in alone (fails_twice ++ Unlocks 1 1 ∷ []) 1 0
+        ≡ Failed 105 ∷ Failed 100 ∷ [] }
     ensures unlocking_without_a_row { results_in alone (has_silver ++ Unlocks 1 1 ∷ []) 1 1 ≡ [] }
     ensures unlocking_of_a_served_store { results_in alone (takes_silver ++ Unlocks 1 0 ∷ []) 1 0 ≡ Passed ∷ [] }
     ensures results_of_a_lost_store { results_in three loses_one 1 0 ≡ Passed ∷ [] }
@@ -202,4 +243,127 @@ pub fn books_can_be_broken()
     ensures seat_without_a_row { HaveSingleUse (taken_from no_row takes_and_enrols) → ⊥ }
     ensures second_row { HaveSingleUse (taken_later two_rows_of_silver takes_again) → ⊥ }
     ensures one_row { taken_later taken takes_again ≡ accepted 2 2 1 0 0 0 ∷ [] }
+{}
+
+/// Counterexamples: each promise of an answer fails for a minimal one.
+pub fn answers_can_be_broken()
+    ensures asked { IsAskedInAction 1 7 silver_text (codes "1") (Some (Takes 1 silver_line)) }
+    ensures asked_at_another_node { IsAskedInAction 2 7 silver_text (codes "1") (Some (Takes 1 silver_line)) → ⊥ }
+    ensures asked_by_another_client { IsAskedInAction 1 8 silver_text (codes "1") (Some (Takes 1 silver_line)) → ⊥ }
+    ensures asked_with_another_nonce { IsAskedInAction 1 7 silver_text (codes "2") (Some (Takes 1 silver_line)) → ⊥ }
+    ensures asked_by_nobody { IsAskedInAction 1 7 silver_text (codes "1") (Some (Takes 1 Tick)) → ⊥ }
+    ensures asked_in_a_stop { IsAskedInAction 1 7 silver_text (codes "1") (Some (StopsIn 1 true silver_line)) }
+    ensures stop_at_another_node { IsAskedInAction 2 7 silver_text (codes "1") (Some (StopsIn 1 true silver_line))
+        → ⊥ }
+    ensures stop_of_another_client { IsAskedInAction 1 8 silver_text (codes "1") (Some (StopsIn 1 true silver_line))
+        → ⊥ }
+    ensures stop_with_another_nonce { IsAskedInAction 1 7 silver_text (codes "2") (Some (StopsIn 1 true silver_line))
+        → ⊥ }
+    ensures stop_that_lost_it { IsAskedInAction 1 7 silver_text (codes "1") (Some (StopsIn 1 false silver_line)) → ⊥ }
+    ensures said { IsSaidInAction 1 7 silver_text (Some (Takes 1 silver_line)) }
+    ensures said_at_another_node { IsSaidInAction 2 7 silver_text (Some (Takes 1 silver_line)) → ⊥ }
+    ensures said_by_another_client { IsSaidInAction 1 8 silver_text (Some (Takes 1 silver_line)) → ⊥ }
+    ensures said_with_another_text { IsSaidInAction 1 7 [] (Some (Takes 1 silver_line)) → ⊥ }
+    ensures said_in_a_stop { IsSaidInAction 1 7 silver_text (Some (StopsIn 1 true silver_line)) → ⊥ }
+    ensures belongs { BelongsToAcceptance alone answers_silver silver_ok }
+    ensures belongs_to_none { BelongsToAcceptance alone has_silver silver_ok → ⊥ }
+    ensures belongs_to_a_later_one { BelongsToAcceptance alone answers_silver (record silver_ok { event = 1 }) → ⊥ }
+    ensures told_by_another_node { BelongsToAcceptance alone answers_silver (record silver_ok { node = 2 }) → ⊥ }
+    ensures told_to_another_client { BelongsToAcceptance alone answers_silver (record silver_ok { client = 8 }) → ⊥ }
+    ensures told_another_factor { BelongsToAcceptance alone answers_silver
+        (told_outcome 2 1 7 (codes "1") (Accepted 1)) → ⊥ }
+    ensures told_again_unasked { BelongsToAcceptance alone answers_silver (record silver_ok { event = 3 }) → ⊥ }
+    ensures reply_of_none { IsTrueReply alone has_silver 1 7 silver_ok.bytes → ⊥ }
+    ensures reply_of_another_node { IsTrueReply alone answers_silver 2 7 silver_ok.bytes → ⊥ }
+    ensures reply_to_another_client { IsTrueReply alone answers_silver 1 8 silver_ok.bytes → ⊥ }
+    ensures reply_of_nothing { IsTrueReply alone answers_silver 1 7 [] → ⊥ }
+    // Each OK of a list is meant. None is for a client that sent no line, at any place.
+    ensures each { (setting : Setting) (history : List Action) (answers : List Answer) (i : ℕ) (answer : Answer)
+        → AnswerTruly setting history answers → slice_get answers i ≡ Some answer → IsOk answer.bytes
+        → BelongsToAcceptance setting history answer }
+    ensures first_untrue { AnswerTruly alone answers_silver (record silver_ok { client = 8 } ∷ silver_ok ∷ []) → ⊥ }
+    ensures second_untrue { AnswerTruly alone answers_silver (silver_ok ∷ record silver_ok { client = 8 } ∷ []) → ⊥ }
+{}
+
+/// Worked cases.
+pub fn grounds_are_worked()
+    ensures drift { drift_of drifted 3 ≡ pos 2 }
+    ensures drift_of_another { drift_of drifted 5 ≡ pos 0 }
+    ensures drift_without_a_row { drift_of drifted 4 ≡ pos 0 }
+    ensures drift_before { drift_in alone takes_silver 1 0 3 ≡ pos 0 }
+    ensures offer { IsJustifiedInAction alone answers_silver (accepted 3 3 1 0 0 0) → ⊥ }
+    ensures no_action { IsJustifiedInAction alone answers_silver (accepted 9 9 1 0 0 0) → ⊥ }
+    ensures node { IsJustifiedInAction alone answers_silver (accepted 2 2 2 0 0 0) → ⊥ }
+    ensures token { IsJustifiedInAction alone answers_silver (record silver_pass { token = 1 }) → ⊥ }
+    // The line is maple's, whose number is 0. The seat of silver's token has the number 1.
+    ensures user { IsJustifiedInAction alone maple_accepted (accepted 3 3 1 0 0 0) → ⊥ }
+    ensures lost { IsJustifiedInAction alone (ends_in_the_step false) silver_pass → ⊥ }
+    ensures tick { IsJustifiedInAction alone (has_silver ++ Opens 1 silver_alone ∷ Takes 1 Tick ∷ []) silver_pass → ⊥ }
+    ensures nobody { IsJustifiedInAction alone (has_silver ++ Stops 1 ∷ Takes 1 silver_line ∷ []) silver_pass → ⊥ }
+    ensures node_in_a_stop { IsJustifiedInAction alone (ends_in_the_step true) (accepted 2 2 2 0 0 0) → ⊥ }
+    // A failure 4 seconds before has closed the token.
+    ensures closed { IsJustifiedInAction alone hurries (accepted 3 3 1 0 0 0) → ⊥ }
+    // Each acceptance of a list is meant. An offer justifies none, at any place.
+    ensures each { (setting : Setting) (history : List Action) (passes : List Acceptance) (i : ℕ) (pass : Acceptance)
+        → JustifiesAll setting history passes → slice_get passes i ≡ Some pass
+        → IsJustifiedInAction setting history pass }
+    ensures first_unjustified { JustifiesAll alone answers_silver (accepted 3 3 1 0 0 0 ∷ silver_pass ∷ []) → ⊥ }
+    ensures second_unjustified { JustifiesAll alone answers_silver (silver_pass ∷ accepted 3 3 1 0 0 0 ∷ []) → ⊥ }
+{}
+
+/// Worked cases.
+pub fn uses_are_worked()
+    ensures first { (first_store late 1).content.boot ≡ last_boot - 1 }
+    ensures after { store_after alone three_uses (first_store alone 1)
+        ≡ record { names = 0 ∷ []; content = record { rows = row_from 31 ∷ []; boot = 5; last = None } } }
+    ensures own { own_process alone 1 0 takes_silver (Down (first_store alone 1)) ≡ process_of_1 takes_silver }
+    ensures of_another { own_process alone 2 0 takes_silver (Down (first_store alone 2))
+        ≡ Down (first_store alone 2) }
+    ensures offers { own_offers alone 1 0 answers_silver (Down (first_store alone 1)) ≡ ToClient silver_ok ∷ [] }
+    ensures offers_of_another { own_offers alone 2 0 answers_silver (Down (first_store alone 2)) ≡ [] }
+    ensures inputs { inputs_at 1 answers_silver ≡ silver_line ∷ [] }
+    ensures inputs_of_another { inputs_at 2 answers_silver ≡ [] }
+    ensures named { named_output maple_first (ToPeerOwn (record { sender = 2; receiver = 1; message = Floor 1 4 }))
+        ≡ ToPeer old_floor }
+    ensures answer_named { named_output maple_first (ToClientOwn silver_ok) ≡ ToClient silver_ok }
+    ensures answer_encoded { offer_of_output first_key (ToClientOwn silver_ok) ≡ Offered (ToLine 7) silver_ok.bytes }
+    ensures recorded { offers_recorded two_replies
+        ≡ Offered (ToLine 7) silver_ok.bytes ∷ Offered (ToLine 8) [] ∷ [] }
+    ensures replies { AreOffersOfUses two_replies (ToClient silver_ok ∷ ToClient second_reply ∷ []) }
+    ensures serving { AreServing 1 (Takes 1 silver_line ∷ Stops 2 ∷ Offers 1 ∷ []) }
+    // The uses of a node may stand among another node's actions.
+    ensures writes { HasUses alone 1 (first_store alone 1) two_writes among_another }
+    ensures process { HasUses alone 1 silver_row idle_use idle_among_another }
+{}
+
+/// Counterexamples: each condition of a node's uses fails for minimal ones.
+pub fn uses_can_be_broken()
+    ensures row_elsewhere { AreUses alone 1 silver_row (Writes (Enrols 2 0 0) ∷ []) → ⊥ }
+    ensures unlocked_elsewhere { AreUses alone 1 silver_row (Writes (Unlocks 2 0) ∷ []) → ⊥ }
+    ensures raised_elsewhere { AreUses alone 1 silver_row (Writes (Raises 2 0 0) ∷ []) → ⊥ }
+    ensures failed_elsewhere { AreUses alone 1 silver_row (Writes (FailsToOpen 2 true) ∷ []) → ⊥ }
+    ensures loss_is_a_use { AreUses alone 1 silver_row (Writes (Loses 1) ∷ []) → ⊥ }
+    ensures second_loss_is_a_use { AreUses alone 1 silver_row (Writes (Unlocks 1 0) ∷ Writes (Loses 1) ∷ []) → ⊥ }
+    ensures after_another_use { (setting : Setting) (node : ℕ) (store : Store) (terms : Terms) (port : List ℕ)
+        (taken : List NodeEvent) (entries : List PortEvent) (left : Content) (uses : List StoreUse)
+        → AreUses setting node store (ServesStore terms port taken entries left ∷ uses)
+        → AreUses setting node (store_under terms.seats left store) uses }
+    // A store without a row for silver, one at the last boot, a tick without a receive, an offer that the machine
+    // didn't make, and a stop that forgets the boot.
+    ensures no_row_there { IsProcess alone 1 silver_alone [] (first_store alone 1) [] [] silver_row.content → ⊥ }
+    ensures no_boot_there { IsProcess alone 1 silver_alone [] (store_with_rows last_boot (0 ∷ []) (λ token. 0)) [] []
+        silver_row.content → ⊥ }
+    ensures ticked_unasked { IsProcess alone 1 silver_alone [] silver_row (Tick ∷ []) [] silver_row.content → ⊥ }
+    ensures offered_unmade { IsProcess alone 1 silver_alone [] silver_row [] (Offered (ToLine 7) [] ∷ [])
+        silver_row.content → ⊥ }
+    ensures left_as_found { IsProcess alone 1 silver_alone [] silver_row [] [] silver_row.content → ⊥ }
+    ensures recorded_unoffered { TakesAndOffers alone 1 silver_alone [] silver_row [] (Offered (ToLine 7) [] ∷ []) []
+        → ⊥ }
+    ensures reply_unrecorded { AreOffersOfUses [] (ToClient silver_ok ∷ []) → ⊥ }
+    ensures second_reply_is_missing { AreOffersOfUses two_replies (ToClient silver_ok ∷ []) → ⊥ }
+    ensures stop_serves { AreServing 1 (Stops 1 ∷ []) → ⊥ }
+    ensures second_opening_serves { AreServing 1 (Offers 1 ∷ Opens 1 silver_alone ∷ []) → ⊥ }
+    ensures one_action_more { HasUses alone 1 silver_row [] (Offers 2 ∷ Offers 1 ∷ []) → ⊥ }
+    ensures second_use_is_missing { HasUses alone 1 silver_row (Writes (Unlocks 1 0) ∷ Writes (Unlocks 1 1) ∷ [])
+        (Unlocks 1 0 ∷ []) → ⊥ }
 {}

@@ -6,4 +6,8 @@
 
 mod laws;
 
-pub use laws::{books_are_safe, books_are_worked, books_can_be_broken, uses_make_histories};
+pub use laws::{
+    answers_can_be_broken, books_are_safe, books_are_worked, books_can_be_broken,
+    grounds_are_worked, served_nodes_are_processes, uses_are_worked, uses_can_be_broken,
+    uses_make_histories,
+};

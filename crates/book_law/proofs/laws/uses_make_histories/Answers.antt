@@ -1,4 +1,6 @@
 -- Each clause is a lemma.
+use Rattle.book_law.proofs.Recorded.{offers, replies_are_true}
+use Rattle.book_law.proofs.Told.{answer_truly}
 use Rattle.book_law.proofs.Uses.{has_history, stores}
 use Rattle.book_law.proofs.laws.uses_make_histories.Goals as goal
 
@@ -7,3 +9,10 @@ returns-clause-history c = has_history
 
 pub returns-clause-stores : goal.returns-clause-stores
 returns-clause-stores c = stores
+
+pub returns-clause-offers : goal.returns-clause-offers
+returns-clause-offers c = offers
+
+pub returns-clause-told : goal.returns-clause-told
+returns-clause-told c = λ setting uses history node i client bytes are is member at ok.
+    replies_are_true setting uses history node i client bytes are is member (answer_truly c.rulings_have_grounds.ensures.grounds setting history) at ok
