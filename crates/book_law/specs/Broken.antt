@@ -19,21 +19,24 @@ ask_comes terms input =
 abbrev pub ask_comes_early : List Action
 ask_comes_early = both_open ++ Takes 1 silver_line ∷ Takes 2 (ask_for 1) ∷ Offers 1 ∷ []
 
--- a Grant that node 2 never made arrives at node 1, also inside a stop
+-- a Grant that node 2 never made arrives at node 1
 abbrev pub forged : List Action
 forged = both_open ++ Takes 1 (grant_for 0) ∷ []
 
+-- the same inside a stop
 abbrev pub forged_in_a_stop : List Action
 forged_in_a_stop = both_open ++ StopsIn 1 true (grant_for 0) ∷ []
 
--- the same from node 3's address, under a number that node 1 doesn't have, and at a node without a process
+-- an envelope of node 2 comes from node 3's address
 abbrev pub from_another : List Action
 from_another =
     both_open ++ Takes 1 (Peer 3 (Some (record { sender = 2; receiver = 1; message = Floor 0 4 }))) ∷ []
 
+-- the Grant is under a number that node 1 doesn't have
 abbrev pub unknown_number : List Action
 unknown_number = both_open ++ Takes 1 (grant_for 2) ∷ []
 
+-- the Grant comes to a node without a process
 abbrev pub to_nobody : List Action
 to_nobody = enrolled ++ Takes 1 (grant_for 0) ∷ []
 
@@ -68,6 +71,7 @@ abbrev pub equal_seats : State
 equal_seats =
     opened_unasked (terms_of first_key (silver ∷ maple ∷ []) (0 ∷ 0 ∷ [])) (store_with_rows 0 (0 ∷ []) (λ token. 0))
 
+-- both lines come
 abbrev pub takes_both : List Action
 takes_both = Takes 1 silver_line ∷ Takes 1 maple_line ∷ []
 
@@ -89,9 +93,11 @@ abbrev pub enrolled_again : Process → Process
 enrolled_again (Down store) = Down (store_with_row 0 0 store)
 enrolled_again (Up terms below state waiting) = Up terms below state waiting
 
+-- the store of each node has a second row for silver
 abbrev pub two_rows_of_silver : State
 two_rows_of_silver = record taken { processes = λ node. enrolled_again (taken.processes node) }
 
+-- a process opens, and the line comes again
 abbrev pub takes_again : List Action
 takes_again = Opens 1 silver_alone ∷ Takes 1 again ∷ []
 

@@ -19,16 +19,19 @@ use Rattle.cluster_sim.specs.World.{Answer}
 use Rattle.book_law.specs.Lives.{Action, Opens, FailsToOpen, Takes, Offers, Stops, StopsIn, Loses, Remakes, Enrols, Unlocks, Raises, Process, Sealed, Setting, Store, Terms, state_of, store_at, store_with_rows}
 use Rattle.book_law.specs.Uses.{Serves as ServesStore, StoreUse, Writes}
 
+-- a user with an event token
 abbrev pub silver : Credential
 silver = user_named (codes "silver")
 
+-- another user
 abbrev pub maple : Credential
 maple = user_named (codes "maple")
 
--- the keys of two clusters
+-- the key of a cluster
 abbrev pub first_key : List ℕ
 first_key = 1 ∷ []
 
+-- the key of another cluster
 abbrev pub second_key : List ℕ
 second_key = 2 ∷ []
 
@@ -36,10 +39,11 @@ second_key = 2 ∷ []
 abbrev pub terms_of : List ℕ → List Credential → List ℕ → Terms
 terms_of key book seats = record { config = config_with book; key = key; seats = seats }
 
--- silver's line stands first in the users file, or maple's
+-- terms with both users, silver first
 abbrev pub silver_first : Terms
 silver_first = terms_of first_key (silver ∷ maple ∷ []) (0 ∷ 1 ∷ [])
 
+-- the same users in the other order
 abbrev pub maple_first : Terms
 maple_first = terms_of first_key (maple ∷ silver ∷ []) (1 ∷ 0 ∷ [])
 
@@ -63,10 +67,11 @@ enrolled = Enrols 1 0 0 ∷ Enrols 1 1 0 ∷ Enrols 2 0 0 ∷ Enrols 2 1 0 ∷ [
 abbrev pub line : List ℕ → NodeEvent
 line text = Client 7 100 text
 
--- the first code of each user
+-- silver's line with her code of factor 0
 abbrev pub silver_line : NodeEvent
 silver_line = line (codes "CHECK 1 silver 755224 -")
 
+-- maple's line with her code of factor 0
 abbrev pub maple_line : NodeEvent
 maple_line = line (codes "CHECK 2 maple 755224 -")
 
@@ -79,10 +84,11 @@ abbrev pub from_peer : ℕ → ℕ → Message → NodeEvent
 from_peer sender receiver message =
     Peer sender (Some (record { sender = sender; receiver = receiver; message = message }))
 
--- node 1's Ask for factor 0 at node 2, and node 2's Grant, for the number that the reader has for silver
+-- node 1's Ask of factor 0 for its first proposal, under a number of node 2
 abbrev pub ask_for : ℕ → NodeEvent
 ask_for number = from_peer 1 2 (Ask (proposal_of_boot 1 1) number (span_of 0 0))
 
+-- node 2's Grant of factor 0 for the first proposal of node 1, under a number of node 1
 abbrev pub grant_for : ℕ → NodeEvent
 grant_for number = from_peer 2 1 (Grant (proposal_of_boot 1 1) number (span_of 0 0))
 
@@ -100,6 +106,7 @@ silver_accepted =
 abbrev pub alone : Setting
 alone = record { n = 1; tokens = 2; boots = []; old = [] }
 
+-- node 1 alone accepts maple, whose number isn't her canonical one
 abbrev pub maple_accepted : List Action
 maple_accepted =
     Enrols 1 0 0 ∷ Enrols 1 1 0 ∷ Opens 1 maple_first ∷ Takes 1 maple_line ∷ Offers 1 ∷ []
@@ -109,6 +116,7 @@ maple_accepted =
 abbrev pub silver_goes : List Action
 silver_goes = silver_accepted ++ Stops 1 ∷ Opens 1 maple_alone ∷ Takes 1 silver_line ∷ Offers 1 ∷ []
 
+-- silver is back in the users file, in another place, and her line comes again
 abbrev pub silver_returns : List Action
 silver_returns = silver_goes ++ Stops 1 ∷ Opens 1 maple_first ∷ Takes 1 silver_line ∷ Offers 1 ∷ []
 
@@ -121,6 +129,7 @@ under_another_key =
 abbrev pub old_floor : Sealed
 old_floor = record { key = first_key; envelope = record { sender = 2; receiver = 1; message = Floor 0 4 } }
 
+-- three nodes, with a Floor of former times
 abbrev pub three_with_old : Setting
 three_with_old = record three { old = old_floor ∷ [] }
 
@@ -205,6 +214,7 @@ fails_twice =
 
 -- ---- Answers and grounds
 
+-- the text of silver's line
 abbrev pub silver_text : List ℕ
 silver_text = codes "CHECK 1 silver 755224 -"
 
@@ -216,6 +226,7 @@ answers_silver = takes_silver ++ Offers 1 ∷ []
 abbrev pub silver_pass : Acceptance
 silver_pass = accepted 2 2 1 0 0 0
 
+-- the OK of the node alone to silver
 abbrev pub silver_ok : Answer
 silver_ok = told_outcome 2 1 7 (codes "1") (Accepted 0)
 
@@ -247,6 +258,7 @@ three_uses =
 abbrev pub two_writes : List StoreUse
 two_writes = Writes (Enrols 1 0 0) ∷ Writes (FailsToOpen 1 true) ∷ []
 
+-- node 1's actions among those of node 2, which opens nothing
 abbrev pub among_another : List Action
 among_another = Enrols 2 0 0 ∷ Enrols 1 0 0 ∷ Unlocks 2 0 ∷ FailsToOpen 1 true ∷ Offers 2 ∷ []
 
@@ -254,6 +266,7 @@ among_another = Enrols 2 0 0 ∷ Enrols 1 0 0 ∷ Unlocks 2 0 ∷ FailsToOpen 1 
 abbrev pub idle_use : List StoreUse
 idle_use = ServesStore silver_alone [] [] [] (record { rows = row_from 0 ∷ []; boot = 1; last = None }) ∷ []
 
+-- actions of node 2 before, between and after those of node 1
 abbrev pub idle_among_another : List Action
 idle_among_another = Offers 2 ∷ Opens 1 silver_alone ∷ Enrols 2 0 0 ∷ Offers 1 ∷ Stops 1 ∷ Stops 2 ∷ []
 
@@ -263,5 +276,6 @@ two_replies =
     ServesStore silver_alone [] [] (Quiet ∷ Offered (ToLine 7) silver_ok.bytes ∷ []) silver_row.content
     ∷ Writes (Unlocks 1 0) ∷ ServesStore silver_alone [] [] (Offered (ToLine 8) [] ∷ []) silver_row.content ∷ []
 
+-- an answer without bytes to another client
 abbrev pub second_reply : Answer
 second_reply = record silver_ok { client = 8; bytes = [] }

@@ -1,0 +1,5 @@
+pub mod Datagrams
+pub mod Examples
+pub mod Ports
+pub mod Stores
+pub mod Unforged
