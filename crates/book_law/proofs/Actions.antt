@@ -22,6 +22,7 @@ use Rattle.vote_core.proofs.Names.{not_eqb}
 use Rattle.oath_node.specs.Machine.{Made, NodeEvent, NodeState, opened_node}
 use Rattle.cluster_sim.specs.World.{Answer, acceptance_in, begun_in, begun_with, passes_in, told_reply}
 use Rattle.cluster_sim.proofs.BelowLaws.{GroundLaw}
+use Rattle.cluster_sim.proofs.Owners.{get_more}
 use Rattle.seat_law.specs.Below.{IsBelow, Site, site_of}
 use Rattle.seat_law.specs.Seats.{Runs, Starts, Gone, Sites, after_course, after_start, free_of, happening_at, may_seat, seat_content, seat_name, stored_last, stored_row, with_own, with_seats}
 use Rattle.seat_law.proofs.Below.{content_is, may, start_below}
@@ -29,7 +30,7 @@ use Rattle.seat_law.proofs.Relation.{Sim}
 use Rattle.seat_law.proofs.Safe.{course_sim}
 use Rattle.seat_law.proofs.Stores.{greatest_same}
 use Rattle.book_law.specs.Lives.{IsGenuine, Output, Process, Sealed, Setting, State, Store, Terms, ToClient, ToPeer, Down, Up, do_fit, floor_of, has_row, has_store, made_by_input, named_beginning, note_of_step, outputs_of_step, places_of, sealed_from, seen_in, store_at, store_in_next_boot, store_under, with_process}
-use Rattle.book_law.proofs.Effects.{Does, Fitted, IsSent, does, member_with}
+use Rattle.book_law.proofs.Effects.{Does, Fitted, FloorsSent, HasSent, IsSent, does, member_with}
 use Rattle.book_law.proofs.Fits.{Fits, IsAt, Next, at_grows, at_stored, by_course, free_is, get_after, has_own, is_kept, sent_grows, set_at}
 use Rattle.book_law.proofs.Opened.{IsOpen, IsStored, open_stored, seen_size, step_open}
 use Rattle.book_law.proofs.Under.{are_places, named_places, opened_under}
@@ -64,7 +65,7 @@ unfolding after_course
 waits e i s = refl
 
 pub stays : (setting : Setting) (e : ℕ) (s : Sites) (r : Roster) (state : State) (Q : Acceptance → Type 0) → Sim s r → Posts s.seen.tokens r.cluster → Fits setting state s → Next setting e r state Q
-stays setting e s r state Q sim posts fits = by_course setting e s r state Q sim posts (Runs (Waits 0)) s (waits e 0 s) refl (λ p h. absurd h) (λ r' sim'. fits)
+stays setting e s r state Q sim posts fits = by_course setting e s r state Q sim posts (Runs (Waits 0)) s (waits e 0 s) refl (λ p h. absurd h) (λ l k. k) (λ r' sim'. fits)
 
 -- ---- a start
 
@@ -177,7 +178,7 @@ module _ (setting : Setting) (e i : ℕ) (terms : Terms) (store : Store) (state 
   pub opens : (Q : Acceptance → Type 0) → Next setting e r (changed i (Up terms store (opened_node (seen_in store terms.seats)) []) [] state) Q
   opens Q =
       let p = Up terms store (opened_node (seen_in store terms.seats)) [] in
-      by_course setting e s r (changed i p [] state) Q sim posts (Starts i terms.seats) (with_seats i terms.seats s) (starts e i terms.seats s allowed) refl (λ q h. absurd h)
+      by_course setting e s r (changed i p [] state) Q sim posts (Starts i terms.seats) (with_seats i terms.seats s) (starts e i terms.seats s allowed) refl (λ q h. absurd h) (λ l k. k)
       (λ r' sim'. seated_fits setting state s i terms.seats p fits
       (subst (λ x. IsAt s.seen.own.sent (state.lost i) x p) (sym (seated_here s i terms.seats is_low)) (opened, tt, is_kept setting state i can)))
 
@@ -207,7 +208,7 @@ module _ (setting : Setting) (e i : ℕ) (store : Store) (state : State) (s : Si
   pub half_opens : (Q : Acceptance → Type 0) → Next setting e r (changed i (Down (store_in_next_boot store)) [] state) Q
   half_opens Q =
       let p = Down (store_in_next_boot store) in
-      by_course setting e s r (changed i p [] state) Q sim posts (Starts i []) (with_seats i [] s) (starts e i [] s half_allowed) refl (λ q h. absurd h)
+      by_course setting e s r (changed i p [] state) Q sim posts (Starts i []) (with_seats i [] s) (starts e i [] s half_allowed) refl (λ q h. absurd h) (λ l k. k)
       (λ r' sim'. seated_fits setting state s i [] p fits (
         record { seats = []; below = half_below; size = at.size },
         λ kept. ap (λ (x : Site). x.member.running) (seated_here s i [] half_low),
@@ -228,7 +229,7 @@ known_answers sent (x ∷ answers) = (tt, known_answers sent answers)
 module _ (law : GroundLaw) (setting : Setting) (e i : ℕ) (terms : Terms) (below : Store) (node : NodeState) (waiting : List Output) (input : NodeEvent)
     (state : State) (s : Sites) (r : Roster) (sim : Sim s r) (posts : Posts s.seen.tokens r.cluster) (fits : Fits setting state s)
     (can : has_store setting state i ≡ true) (at : IsAt s.seen.own.sent (state.lost i) (site_of s i) (Up terms below node waiting))
-    (genuine : IsGenuine terms state.offered input) where
+    (genuine : IsGenuine terms state.offered input) (floors : FloorsSent setting.tokens setting.n s.seen.own.sent i input) where
   abbrev made : Made
   made = made_by_input setting terms i input node
 
@@ -237,7 +238,7 @@ module _ (law : GroundLaw) (setting : Setting) (e i : ℕ) (terms : Terms) (belo
 
   done : Does e i s terms node input made
   done = does law e i setting.n s r sim terms node input fits.n (has_own setting state s i fits can) open_now.member open_now.name (seen_size open_now) open_now.book open_now.apart
-      state.offered fits.offered genuine
+      state.offered fits.offered genuine (subst (λ m. FloorsSent m setting.n s.seen.own.sent i input) (sym fits.tokens) floors)
 
   abbrev own : Cluster
   own = done.own
@@ -266,6 +267,9 @@ module _ (law : GroundLaw) (setting : Setting) (e i : ℕ) (terms : Terms) (belo
 
   sent_before : (h : Output) → IsSent s.seen.own.sent h → IsSent own.sent h
   sent_before h k = subst (λ l. IsSent l h) (sym done.effect.sent) (sent_grows s.seen.own.sent more h k)
+
+  step_grows : (l : Envelope) → HasSent s.seen.own.sent l → HasSent own.sent l
+  step_grows l k = subst (λ sent. HasSent sent l) (sym done.effect.sent) (k.0, get_more s.seen.own.sent more k.0 l k.1)
 
   outputs_known : Each (IsSent own.sent) (outputs_of_step terms e i made)
   outputs_known =
@@ -318,7 +322,7 @@ module _ (law : GroundLaw) (setting : Setting) (e i : ℕ) (terms : Terms) (belo
   pub takes : Next setting e r (stepped (Up terms below made.state (waiting ++ outputs_of_step terms e i made))) (Fitted terms node i input)
   takes =
       let p = Up terms below made.state (waiting ++ outputs_of_step terms e i made) in
-      by_course setting e s r (stepped p) (Fitted terms node i input) sim posts (Runs done.doing) after ran refl done.fitted
+      by_course setting e s r (stepped p) (Fitted terms node i input) sim posts (Runs done.doing) after ran refl done.fitted step_grows
       (λ r' sim'. step_fits p (
         still_open r' sim',
         each_append (IsSent own.sent) waiting (outputs_of_step terms e i made) (each_weaker (IsSent s.seen.own.sent) (IsSent own.sent) sent_before waiting at.1) outputs_known,
@@ -328,7 +332,7 @@ module _ (law : GroundLaw) (setting : Setting) (e i : ℕ) (terms : Terms) (belo
   pub cuts : Next setting e r (stepped (Down (store_under terms.seats made.state.content below))) (Fitted terms node i input)
   cuts =
       let p = Down (store_under terms.seats made.state.content below) in
-      by_course setting e s r (stepped p) (Fitted terms node i input) sim posts (Runs done.doing) after ran refl done.fitted
+      by_course setting e s r (stepped p) (Fitted terms node i input) sim posts (Runs done.doing) after ran refl done.fitted step_grows
       (λ r' sim'. let now = still_open r' sim' in step_fits p (open_stored (site_of after i) terms below made.state now, λ kept. ap (λ (m : Member). m.running) now.member))
 
 -- ---- a loss
@@ -401,5 +405,9 @@ module _ (setting : Setting) (e i : ℕ) (p : Process) (state : State) (s : Site
     nodes = set_at (λ j q. IsAt s.seen.own.sent (with_node i state.lost j) (site_of (with_own gone_own s) j) q) i (Down gone_store) state.processes gone_here gone_other;
   }
 
+  gone_grows : (l : Envelope) → HasSent s.seen.own.sent l → HasSent (with_own gone_own s).seen.own.sent l
+  unfolding gone_own
+  gone_grows l k = k
+
   pub loses : (Q : Acceptance → Type 0) → Next setting e r gone_state Q
-  loses Q = by_course setting e s r gone_state Q sim posts (Gone i) (with_own gone_own s) is_gone refl (λ q h. absurd h) (λ r' sim'. gone_fits)
+  loses Q = by_course setting e s r gone_state Q sim posts (Gone i) (with_own gone_own s) is_gone refl (λ q h. absurd h) gone_grows (λ r' sim'. gone_fits)

@@ -27,7 +27,7 @@ use Rattle.seat_law.proofs.Below.{put_is_below}
 use Rattle.seat_law.proofs.Relation.{NodeSim, Sim, number_lacks, number_there, option_cases, store_same, stored_is}
 use Rattle.book_law.specs.Lives.{Setting, State, Store, Down, content_unlocked, has_store, row_of}
 use Rattle.book_law.proofs.Actions.{changed}
-use Rattle.book_law.proofs.Effects.{IsSent, member_with}
+use Rattle.book_law.proofs.Effects.{HasSent, IsSent, member_with}
 use Rattle.book_law.proofs.Fits.{Fits, IsAt, Next, has_own, set_at, stored_row_is}
 use Rattle.book_law.proofs.Opened.{IsStored}
 use Rattle.book_law.proofs.Under.{map_same}
@@ -336,6 +336,7 @@ module _ (setting : Setting) (e i t : ℕ) (store : Store) (state : State) (s : 
         };
         same = refl;
         proposed = λ p h. absurd (none p h);
+        grows = λ l k. subst (λ sent. HasSent sent l) (sim.sent ∙ sym f.sent) k;
       }
 
   canon_up : canon.running ≡ true

@@ -35,7 +35,7 @@ use Rattle.seat_law.specs.Seats.{Sites, after_doing, seat_name, with_own}
 use Rattle.seat_law.proofs.Last.{blind_message, blind_propose}
 use Rattle.seat_law.proofs.Relation.{Sim, number_lacks, number_there, option_cases, seen_of}
 use Rattle.seat_law.proofs.Stores.{names_apart}
-use Rattle.book_law.specs.Lives.{Output, Terms, ToClient, ToPeer, IsGenuine, WasOffered, named_beginning, named_envelope}
+use Rattle.book_law.specs.Lives.{Output, Terms, ToClient, ToPeer, IsGenuine, IsOfVote, WasOffered, named_beginning, named_envelope}
 
 -- the member of a process's machine; it never stops of itself over seats
 abbrev pub member_with : Content → VoterState → Member
@@ -135,10 +135,29 @@ span_true lo hi h =
     or_right true = refl
     or_right false = refl
 
+-- the envelope was sent
+abbrev pub HasSent : List Envelope → Envelope → Type 0
+HasSent sent l = (k : ℕ) × (slice_get sent k ≡ Some l)
+
 -- the sites have sent the envelope; nothing is said of an answer
 abbrev pub IsSent : List Envelope → Output → Type 0
-IsSent sent (ToPeer sealed) = (k : ℕ) × (slice_get sent k ≡ Some sealed.envelope)
+IsSent sent (ToPeer sealed) = HasSent sent sealed.envelope
 IsSent sent (ToClient answer) = Unit {0}
+
+-- the member `from` may tell the member `i` something
+abbrev pub may_tell : ℕ → ℕ → ℕ → Bool
+may_tell n from i = not (eqb from i) && (is_member n from && is_member n i)
+
+-- a message that only tells a floor was sent to the node, whatever token it is about
+abbrev pub FloorsSentIn : ℕ → ℕ → List Envelope → ℕ → ℕ → Message → Type 0
+FloorsSentIn tokens n sent i from (Floor number floor) =
+    (token : ℕ) → token < tokens → may_tell n from i ≡ true → HasSent sent (record { sender = from; receiver = i; message = Floor token floor })
+FloorsSentIn tokens n sent i from message = Unit {0}
+
+-- the floor that the input tells, if any, was sent
+abbrev pub FloorsSent : ℕ → ℕ → List Envelope → ℕ → NodeEvent → Type 0
+FloorsSent tokens n sent i (Peer from (Some l)) = FloorsSentIn tokens n sent i from l.message
+FloorsSent tokens n sent i input = Unit {0}
 
 -- ---- the steps of a process
 
@@ -397,28 +416,59 @@ module _ (law : GroundLaw) (e i n : ℕ) (s : Sites) (r : Roster) (sim : Sim s r
       → (k : ℕ) × (slice_get own.sent k ≡ Some (named_envelope terms.seats l))
   sent_before offered known l was = each_get (IsSent own.sent) offered was.place (ToPeer (record { key = terms.key; envelope = named_envelope terms.seats l })) known was.is_there
 
-  reads : (from : ℕ) (offered : List Output) (read : Option Envelope) → Each (IsSent own.sent) offered → IsGenuine terms offered (Peer from read) → Does e i s terms state input (made_by_datagram terms.config place from read state)
+  may_hear : (from : ℕ) (l : Envelope) → is_heard terms.config place from l ≡ true → may_tell n from i ≡ true
+  may_hear from l h =
+      let a = and_parts (eqb l.sender from) _ h in
+      let b = and_parts (eqb l.receiver i) _ a.1 in
+      let c = and_parts (not (eqb l.sender i)) _ b.1 in
+      let d = and_parts (is_member n l.sender) (ltb (token_of l.message) (length terms.config.book)) c.1 in
+      let here_is : is_member n i ≡ true = subst (λ m. is_member m i ≡ true) members (and_parts (not (own.lost i)) (is_member own.n i) up).1 in
+      subst (λ z. may_tell n z i ≡ true) (eqb-true l.sender from a.0)
+      (and_from (not (eqb l.sender i)) (is_member n l.sender && is_member n i) c.0 (and_from (is_member n l.sender) (is_member n i) d.0 here_is))
+
+  -- the token of a number is a canonical one
+  token_low : (t : ℕ) → t < length terms.seats → seat_name terms.seats t < s.seen.tokens
+  token_low t within =
+      let rows : rows_of s.seen i ≡ length terms.seats = ap (λ (x : Member). length x.content.rows) member ∙ size in
+      subst (λ (f : ℕ → ℕ). f t < s.seen.tokens) name
+      ((sim.nodes i).within (named t) ((sim.nodes i).seated t (subst (λ m. t < m) (sym rows) within)))
+
+  -- what is heard was sent: a process offered it, or it tells a floor
+  heard_sent : (from : ℕ) (m : Message) → may_tell n from i ≡ true → token_of m < length terms.seats
+      → (IsOfVote m → HasSent own.sent (record { sender = from; receiver = i; message = named_message (seat_name terms.seats) m })) → FloorsSentIn s.seen.tokens n own.sent i from m
+      → HasSent own.sent (record { sender = from; receiver = i; message = named_message (seat_name terms.seats) m })
+  heard_sent from (Ask p t span) may within vote floors = vote tt
+  heard_sent from (Grant p t span) may within vote floors = vote tt
+  heard_sent from (Deny p t next) may within vote floors = vote tt
+  heard_sent from (Floor t next) may within vote floors = floors (seat_name terms.seats t) (token_low t within) may
+
+  reads : (from : ℕ) (offered : List Output) (read : Option Envelope) → Each (IsSent own.sent) offered → IsGenuine terms offered (Peer from read) → FloorsSent s.seen.tokens n own.sent i (Peer from read)
+      → Does e i s terms state input (made_by_datagram terms.config place from read state)
   unfolding made_by_datagram
-  reads from offered None known genuine = idle (quiet_made state) refl refl refl refl refl
-  reads from offered (Some l) known genuine =
+  reads from offered None known genuine floors = idle (quiet_made state) refl refl refl refl refl
+  reads from offered (Some l) known genuine floors =
       cond_both (is_heard terms.config place from l) (made_by_message place from l.message state) (quiet_made state) (λ made. Does e i s terms state input made)
       (λ q.
       let is = is_for from l q in
-      let at = sent_before offered known l (genuine is.0 is.2) in
-      hears at.0 from l.message is.2
-      (at.1 ∙ ap (λ z. Some (record { sender = z; receiver = l.receiver; message = named_message (seat_name terms.seats) l.message })) is.0
-      ∙ ap (λ z. Some (record { sender = from; receiver = z; message = named_message (seat_name terms.seats) l.message })) is.1))
+      let at = heard_sent from l.message (may_hear from l q) is.2
+      (λ vote.
+      subst (λ z. HasSent own.sent (record { sender = from; receiver = z; message = named_message (seat_name terms.seats) l.message })) is.1
+      (subst (λ z. HasSent own.sent (record { sender = z; receiver = l.receiver; message = named_message (seat_name terms.seats) l.message })) is.0
+      (sent_before offered known l (genuine is.0 vote is.2))))
+      floors in
+      hears at.0 from l.message is.2 at.1)
       (λ _. idle (quiet_made state) refl refl refl refl refl)
 
-  works : (offered : List Output) (v : NodeEvent) → input ≡ v → Each (IsSent own.sent) offered → IsGenuine terms offered v → Does e i s terms state input (made_while_running terms.config place v state)
+  works : (offered : List Output) (v : NodeEvent) → input ≡ v → Each (IsSent own.sent) offered → IsGenuine terms offered v → FloorsSent s.seen.tokens n own.sent i v
+      → Does e i s terms state input (made_while_running terms.config place v state)
   unfolding made_while_running
-  works offered (Client client moment text) is known genuine =
+  works offered (Client client moment text) is known genuine floors =
       ruled client moment text (ruling_at terms.config state client moment text) is (law terms.config.book terms.config.limits (standing_at state client moment (without_lf text)) moment text)
-  works offered (Peer from read) is known genuine = reads from offered read known genuine
-  works offered Tick is known genuine = ticks
+  works offered (Peer from read) is known genuine floors = reads from offered read known genuine floors
+  works offered Tick is known genuine floors = ticks
 
-  pub does : (offered : List Output) → Each (IsSent own.sent) offered → IsGenuine terms offered input → Does e i s terms state input (made_by_event terms.config place input state)
+  pub does : (offered : List Output) → Each (IsSent own.sent) offered → IsGenuine terms offered input → FloorsSent s.seen.tokens n own.sent i input → Does e i s terms state input (made_by_event terms.config place input state)
   unfolding made_by_event
-  does offered known genuine =
+  does offered known genuine floors =
       cond_both state.running (made_while_running terms.config place input state) (quiet_made state) (λ made. Does e i s terms state input made)
-      (λ _. works offered input refl known genuine) (λ _. idle (quiet_made state) refl refl refl refl refl)
+      (λ _. works offered input refl known genuine floors) (λ _. idle (quiet_made state) refl refl refl refl refl)

@@ -22,7 +22,7 @@ use Rattle.seat_law.proofs.Below.{content_is}
 use Rattle.seat_law.proofs.Relation.{Sim, number_there}
 use Rattle.seat_law.proofs.Safe.{course_sim}
 use Rattle.book_law.specs.Lives.{Output, Process, Setting, State, Store, ToClient, ToPeer, Down, Up, floor_in_row, floor_of, has_store, row_of, store_at, with_process}
-use Rattle.book_law.proofs.Effects.{IsSent}
+use Rattle.book_law.proofs.Effects.{HasSent, IsSent}
 use Rattle.book_law.proofs.Opened.{IsOpen, IsStored, open_stored}
 
 -- a node's site, at its process
@@ -76,7 +76,7 @@ event_begun s r p (Remade i boot given floor) h =
     cond_both (may_remake s i boot given floor) (Renews i boot (is_among given) floor) (RosterDoes (Rests i)) (λ z. IsProposedIn p (Some (event_of r z)) → ⊥) (λ _ q. q) (λ _ q. q) h
 
 -- The state after an action, as the sites and the roster after an event. Each acceptance that the event proposes has the
--- claim `Q`.
+-- claim `Q`. What was sent before is still sent.
 pub record Next (setting : Setting) (e : ℕ) (r : Roster) (state : State) (Q : Acceptance → Type 0) : Type 0 where
   pub sites : Sites
   pub roster : Roster
@@ -86,10 +86,11 @@ pub record Next (setting : Setting) (e : ℕ) (r : Roster) (state : State) (Q : 
   pub fits : Fits setting state sites
   pub same : roster.cluster ≡ after_event e event r.cluster
   pub proposed : (p : Acceptance) → IsProposedIn p (Some event) → Q p
+  pub grows : (l : Envelope) → HasSent r.cluster.sent l → HasSent sites.seen.own.sent l
 
 pub by_course : (setting : Setting) (e : ℕ) (s : Sites) (r : Roster) (state : State) (Q : Acceptance → Type 0) → Sim s r → Posts s.seen.tokens r.cluster → (x : Course) (s' : Sites) → after_course e x s ≡ s' → s'.seen.tokens ≡ s.seen.tokens
-    → ((p : Acceptance) → IsBegunBy s.seen.name p (Some x) → Q p) → ((r' : Roster) → Sim s' r' → Fits setting state s') → Next setting e r state Q
-by_course setting e s r state Q sim posts x s' is tokens begun fits =
+    → ((p : Acceptance) → IsBegunBy s.seen.name p (Some x) → Q p) → ((l : Envelope) → HasSent s.seen.own.sent l → HasSent s'.seen.own.sent l) → ((r' : Roster) → Sim s' r' → Fits setting state s') → Next setting e r state Q
+by_course setting e s r state Q sim posts x s' is tokens begun grows fits =
     let h = happening_at s x in
     let r' = after_happening e h r in
     let sim' = subst (λ z. Sim z r') is (course_sim e s r x posts sim) in
@@ -102,11 +103,12 @@ by_course setting e s r state Q sim posts x s' is tokens begun fits =
       fits = fits r' sim';
       same = refl;
       proposed = λ p h. begun p (event_begun s r p x h);
+      grows = λ l k. grows l (subst (λ sent. HasSent sent l) sim.sent k);
     }
 
 -- an event has the same claims in other words
 pub in_other_words : {setting : Setting} {e : ℕ} {r : Roster} {state : State} (Q P : Acceptance → Type 0) → ((p : Acceptance) → Q p → P p) → Next setting e r state Q → Next setting e r state P
-in_other_words Q P f n = record { sites = n.sites; roster = n.roster; event = n.event; sim = n.sim; posts = n.posts; fits = n.fits; same = n.same; proposed = λ p h. f p (n.proposed p h) }
+in_other_words Q P f n = record { sites = n.sites; roster = n.roster; event = n.event; sim = n.sim; posts = n.posts; fits = n.fits; same = n.same; proposed = λ p h. f p (n.proposed p h); grows = n.grows }
 
 -- ---- what a node's store has
 

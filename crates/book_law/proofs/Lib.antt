@@ -3,7 +3,9 @@ pub mod Commands
 pub mod Effects
 pub mod Events
 pub mod Fits
+pub mod Floors
 pub mod Gates
+pub mod Held
 pub mod Justified
 pub mod Opened
 pub mod Recorded

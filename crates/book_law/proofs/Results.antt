@@ -14,7 +14,7 @@ use Rattle.vote_core.specs.Books.{is_number, number_of}
 use Rattle.vote_core.specs.Rows.{no_row, row, row_with_gate, row_with_next}
 use Rattle.vote_core.specs.Schedule.{Cluster, Member, last_boot}
 use Rattle.vote_core.specs.Voting.{raise}
-use Rattle.vote_core.proofs.Basics.{get_before, get_last}
+use Rattle.vote_core.proofs.Basics.{Each, get_before, get_last}
 use Rattle.vote_core.proofs.Names.{not_eqb, same_or_not}
 use Rattle.oath_node.specs.Machine.{Made, NodeEvent, NodeState, opened_node}
 use Rattle.cluster_sim.proofs.BelowLaws.{GateLaw, GroundLaw, SpaceLaw}
@@ -23,14 +23,16 @@ use Rattle.cluster_sim.specs.Results.{results_with_failure, results_with_pass}
 use Rattle.seat_law.specs.Below.{Site, site_of}
 use Rattle.seat_law.specs.Seats.{seat_name}
 use Rattle.seat_law.proofs.Relation.{number_lacks, number_there, option_cases}
-use Rattle.book_law.specs.Lives.{Action, Opens, FailsToOpen, Takes, Offers, Stops, StopsIn, Loses, Remakes, Enrols, Unlocks, Raises, AreGenuine, IsGenuineAction, IsGenuineAt, IsHistory, Output, Process, Setting, State, Store, Terms, Down, Up, can_be, content_raised, content_under, content_unlocked, do_fit, first_state, has_row, has_store, made_by_input, may_enrol, node_of_action, places_of, process_after, process_offered, process_opened, row_of, seen_in, state_after, state_after_action, state_with, store_at, store_in_next_boot, store_under, store_with_row, store_with_rows, with_process}
+use Rattle.book_law.specs.Lives.{Action, Opens, FailsToOpen, Takes, Offers, Stops, StopsIn, Loses, Remakes, Enrols, Unlocks, Raises, AreGenuine, IsGenuineAction, IsGenuineAt, IsHistory, Output, Process, Setting, State, Store, Terms, Down, Up, can_be, content_raised, content_under, content_unlocked, do_fit, first_state, has_row, has_store, made_boot, made_by_input, may_enrol, node_of_action, places_of, process_after, process_offered, process_opened, row_of, seen_in, state_after, state_after_action, state_with, store_at, store_in_next_boot, store_under, store_with_row, store_with_rows, with_process}
 use Rattle.book_law.specs.Results.{results_after, results_after_action, results_by, results_in, results_of_number, results_of_step, with_results}
 use Rattle.book_law.proofs.Actions.{opened_step}
+use Rattle.book_law.proofs.Effects.{FloorsSent, HasSent}
 use Rattle.book_law.proofs.Fits.{IsAt, at_stored}
+use Rattle.book_law.proofs.Floors.{FloorsSentBy, all_grow, told_may, told_of}
 use Rattle.book_law.proofs.Gates.{MadeRight, event_right}
 use Rattle.book_law.proofs.Opened.{IsOpen, IsStored, seen_size}
 use Rattle.book_law.proofs.Under.{opened_under, row_off, rows_size}
-use Rattle.book_law.proofs.Walk.{Holds, first_holds, follows, lost_up}
+use Rattle.book_law.proofs.Walk.{Holds, first_holds, first_told, follows, former, lost_up}
 
 -- the gates of a store are those after the results, and a token without a row has none
 pub record IsGatedAt (results : ℕ → List Result) (store : Store) : Type 0 where
@@ -95,14 +97,14 @@ module _ (x : Site) (terms : Terms) (below : Store) (state : NodeState) (h : IsO
   place_row m lt = found_row below open_one (seat_name places m) (name m) (place_low m lt) (place_name m lt)
 
   -- the row of a token without a seat is not seen
-  hidden : (t k : ℕ) → row_of below t ≡ Some k → number_of (length terms.seats) name t ≡ None → (m : ℕ) → slice_get places m ≡ Some k → ⊥
+  pub hidden : (t k : ℕ) → row_of below t ≡ Some k → number_of (length terms.seats) name t ≡ None → (m : ℕ) → slice_get places m ≡ Some k → ⊥
   hidden t k is none m at =
       let lt = subst (λ n. m < n) long (slice_get_within places m k at) in
       number_lacks (length terms.seats) name t none m lt
       (sym (place_name m lt) ∙ ap (seat_name below.names) (get_or_from_slice_get places m k 0 at) ∙ (number_there (length below.names) (seat_name below.names) t k is).1)
 
   -- the row of a token with a seat is the seat's place
-  seated_place : (t k m : ℕ) → row_of below t ≡ Some k → number_of (length terms.seats) name t ≡ Some m → (m < length terms.seats) × (name m ≡ t) × (seat_name places m ≡ k)
+  pub seated_place : (t k m : ℕ) → row_of below t ≡ Some k → number_of (length terms.seats) name t ≡ Some m → (m < length terms.seats) × (name m ≡ t) × (seat_name places m ≡ k)
   seated_place t k m is some =
       let there = number_there (length terms.seats) name t m some in
       (there.0, there.1, same_Some (seat_name places m) k (sym (place_row m there.0) ∙ ap (row_of below) there.1 ∙ is))
@@ -288,11 +290,11 @@ module _ (grounds : GroundLaw) (gates : GateLaw) (setting : Setting) (e : ℕ) (
   open_now i terms below node waiting is = (subst (IsAt holds.sites.seen.own.sent (state.lost i) (site_of holds.sites i)) is (holds.fits.nodes i)).0
 
   step_now : (i : ℕ) (terms : Terms) (below : Store) (node : NodeState) (waiting : List Output) (input : NodeEvent) (results : ℕ → List Result) → state.processes i ≡ Up terms below node waiting → has_store setting state i ≡ true
-      → IsGenuineAt (state.processes i) state.offered input → IsGatedAt results (store_under terms.seats node.content below)
+      → IsGenuineAt (state.processes i) state.offered input → FloorsSent setting.tokens setting.n holds.sites.seen.own.sent i input → IsGatedAt results (store_under terms.seats node.content below)
       → IsGatedAt (results_of_step terms (made_by_input setting terms i input node) results) (store_under terms.seats (made_by_input setting terms i input node).state.content below)
-  step_now i terms below node waiting input results is can g h =
+  step_now i terms below node waiting input results is can g f h =
       let next = opened_step grounds setting e i terms below node waiting input state holds.sites holds.roster holds.sim holds.posts holds.fits can
-      (subst (IsAt holds.sites.seen.own.sent (state.lost i) (site_of holds.sites i)) is (holds.fits.nodes i)) (subst (λ p. IsGenuineAt p state.offered input) is g) in
+      (subst (IsAt holds.sites.seen.own.sent (state.lost i) (site_of holds.sites i)) is (holds.fits.nodes i)) (subst (λ p. IsGenuineAt p state.offered input) is g) f in
       step_gated grounds gates setting i terms below node input results (site_of holds.sites i) (open_now i terms below node waiting is) h next.0 next.1
 
   opens_gated : (i : ℕ) (terms : Terms) (store : Store) (results : ℕ → List Result) → IsGatedAt results store → IsGatedAt results (store_at (process_opened terms store))
@@ -315,58 +317,62 @@ module _ (grounds : GroundLaw) (gates : GateLaw) (setting : Setting) (e : ℕ) (
   offered_gated terms below node [] results h = h
   offered_gated terms below node (o ∷ waiting) results h = h
 
-  node_gated : (d : Action) (p : Process) (results : ℕ → List Result) → state.processes (node_of_action d) ≡ p → can_be setting state d ≡ true → IsGenuineAction state d → IsGatedAt results (store_at p)
+  node_gated : (d : Action) (p : Process) (results : ℕ → List Result) → state.processes (node_of_action d) ≡ p → can_be setting state d ≡ true → IsGenuineAction state d → FloorsSentBy setting holds.sites.seen.own.sent d → IsGatedAt results (store_at p)
       → IsGatedAt (results_by setting d p results) (store_at (process_after setting e d p))
-  node_gated (Opens i terms) (Down store) results is can g h = opens_gated i terms store results h
-  node_gated (Opens i new) (Up terms below node waiting) results is can g h = h
-  node_gated (FailsToOpen i true) (Down store) results is can g h = half_gated store results h
-  node_gated (FailsToOpen i false) (Down store) results is can g h = h
-  node_gated (FailsToOpen i raised) (Up terms below node waiting) results is can g h = h
-  node_gated (Takes i input) (Down store) results is can g h = h
-  node_gated (Takes i input) (Up terms below node waiting) results is can g h = step_now i terms below node waiting input results is can g h
-  node_gated (Offers i) (Down store) results is can g h = h
-  node_gated (Offers i) (Up terms below node waiting) results is can g h = offered_gated terms below node waiting results h
-  node_gated (Stops i) (Down store) results is can g h = h
-  node_gated (Stops i) (Up terms below node waiting) results is can g h = h
-  node_gated (StopsIn i true input) (Down store) results is can g h = h
-  node_gated (StopsIn i false input) (Down store) results is can g h = h
-  node_gated (StopsIn i false input) (Up terms below node waiting) results is can g h = h
-  node_gated (StopsIn i true input) (Up terms below node waiting) results is can g h = step_now i terms below node waiting input results is can g h
-  node_gated (Loses i) p results is can g h = same_gated results (store_at p) _ refl h
-  node_gated (Remakes i boot given floor) (Down store) results is can g h = made_gated gates boot given floor
-  node_gated (Remakes i boot given floor) (Up terms below node waiting) results is can g h =
+  node_gated (Opens i terms) (Down store) results is can g f h = opens_gated i terms store results h
+  node_gated (Opens i new) (Up terms below node waiting) results is can g f h = h
+  node_gated (FailsToOpen i true) (Down store) results is can g f h = half_gated store results h
+  node_gated (FailsToOpen i false) (Down store) results is can g f h = h
+  node_gated (FailsToOpen i raised) (Up terms below node waiting) results is can g f h = h
+  node_gated (Takes i input) (Down store) results is can g f h = h
+  node_gated (Takes i input) (Up terms below node waiting) results is can g f h = step_now i terms below node waiting input results is can g f h
+  node_gated (Offers i) (Down store) results is can g f h = h
+  node_gated (Offers i) (Up terms below node waiting) results is can g f h = offered_gated terms below node waiting results h
+  node_gated (Stops i) (Down store) results is can g f h = h
+  node_gated (Stops i) (Up terms below node waiting) results is can g f h = h
+  node_gated (StopsIn i true input) (Down store) results is can g f h = h
+  node_gated (StopsIn i false input) (Down store) results is can g f h = h
+  node_gated (StopsIn i false input) (Up terms below node waiting) results is can g f h = h
+  node_gated (StopsIn i true input) (Up terms below node waiting) results is can g f h = step_now i terms below node waiting input results is can g f h
+  node_gated (Loses i) p results is can g f h = same_gated results (store_at p) _ refl h
+  node_gated (Remakes i boot given floor) (Down store) results is can g f h = made_gated gates boot given floor
+  node_gated (Remakes i boot given floor) (Up terms below node waiting) results is can g f h =
       absurd (lost_up grounds setting e state holds.sites holds.roster holds.sim holds.posts holds.fits (λ q. ⊥) i boot given floor terms below node waiting
       (subst (IsAt holds.sites.seen.own.sent (state.lost i) (site_of holds.sites i)) is (holds.fits.nodes i)) can)
-  node_gated (Enrols i t floor) (Down store) results is can g h = enrols_gated i t floor store results is h
-  node_gated (Enrols i t floor) (Up terms below node waiting) results is can g h = h
-  node_gated (Unlocks i t) (Down store) results is can g h = unlocked_gated gates results t store (stored_one (site_of holds.sites i) store (stored_now i store is)) (stored_now i store is).size h (row_of store t) refl
-  node_gated (Unlocks i t) (Up terms below node waiting) results is can g h = h
-  node_gated (Raises i t floor) (Down store) results is can g h = raised_gated results t floor store (stored_one (site_of holds.sites i) store (stored_now i store is)) (stored_now i store is).size h (row_of store t) refl
-  node_gated (Raises i t floor) (Up terms below node waiting) results is can g h = h
+  node_gated (Enrols i t floor) (Down store) results is can g f h = enrols_gated i t floor store results is h
+  node_gated (Enrols i t floor) (Up terms below node waiting) results is can g f h = h
+  node_gated (Unlocks i t) (Down store) results is can g f h = unlocked_gated gates results t store (stored_one (site_of holds.sites i) store (stored_now i store is)) (stored_now i store is).size h (row_of store t) refl
+  node_gated (Unlocks i t) (Up terms below node waiting) results is can g f h = h
+  node_gated (Raises i t floor) (Down store) results is can g f h = raised_gated results t floor store (stored_one (site_of holds.sites i) store (stored_now i store is)) (stored_now i store is).size h (row_of store t) refl
+  node_gated (Raises i t floor) (Up terms below node waiting) results is can g f h = h
 
-  pub action_gated : (d : Action) (results : ℕ → ℕ → List Result) → IsGenuineAction state d → Gated state results → Gated (state_after_action setting e d state) (results_after_action setting d state results)
+  pub action_gated : (d : Action) (results : ℕ → ℕ → List Result) → IsGenuineAction state d → FloorsSentBy setting holds.sites.seen.own.sent d → Gated state results → Gated (state_after_action setting e d state) (results_after_action setting d state results)
   unfolding state_after_action results_after_action
-  action_gated d results g h = either (state.processes (node_of_action d)) refl (can_be setting state d) refl
+  action_gated d results g f h = either (state.processes (node_of_action d)) refl (can_be setting state d) refl
     where
       either : (p : Process) → state.processes (node_of_action d) ≡ p → (b : Bool) → can_be setting state d ≡ b
           → Gated (cond b (state_with setting e d p state) state) (cond b (with_results (node_of_action d) (results_by setting d p (results (node_of_action d))) results) results)
       either p is true can =
           set_gated (node_of_action d) (process_after setting e d p) state.processes (results_by setting d p (results (node_of_action d))) results
-          (node_gated d p (results (node_of_action d)) is can g (subst (λ z. IsGatedAt (results (node_of_action d)) (store_at z)) is (h (node_of_action d)))) h
+          (node_gated d p (results (node_of_action d)) is can g f (subst (λ z. IsGatedAt (results (node_of_action d)) (store_at z)) is (h (node_of_action d)))) h
       either p is false can = h
 
-all_gated : GroundLaw → GateLaw → (setting : Setting) (first : ℕ) (history : List Action) (state : State) (w : Cluster) (results : ℕ → ℕ → List Result) → Holds setting state w → AreGenuine setting first history state → Gated state results
+all_gated : GroundLaw → GateLaw → (setting : Setting) (first : ℕ) (history : List Action) (state : State) (w : Cluster) (results : ℕ → ℕ → List Result) (holds : Holds setting state w) → AreGenuine setting first history state
+    → Each (FloorsSentBy setting holds.sites.seen.own.sent) history → Gated state results
     → Gated (state_after setting first history state) (results_after setting first history state results)
 unfolding state_after results_after AreGenuine
-all_gated grounds gates setting first [] state w results holds g h = h
-all_gated grounds gates setting first (d ∷ history) state w results holds g h =
-    let next = follows grounds setting first state holds.sites holds.roster holds.sim holds.posts holds.fits d g.0 in
+all_gated grounds gates setting first [] state w results holds g f h = h
+all_gated grounds gates setting first (d ∷ history) state w results holds g f h =
+    let next = follows grounds setting first state holds.sites holds.roster holds.sim holds.posts holds.fits d g.0 f.0 in
     all_gated grounds gates setting (suc first) history (state_after_action setting first d state) next.roster.cluster (results_after_action setting d state results)
-    (record { sites = next.sites; roster = next.roster; sim = next.sim; posts = next.posts; fits = next.fits; same = refl }) g.1 (action_gated grounds gates setting first state w holds d results g.0 h)
+    (record { sites = next.sites; roster = next.roster; sim = next.sim; posts = next.posts; fits = next.fits; same = refl }) g.1
+    (all_grow setting holds.sites.seen.own.sent next.sites.seen.own.sent history (λ l k. next.grows l (subst (λ sent. HasSent sent l) (sym holds.sim.sent) k)) f.1)
+    (action_gated grounds gates setting first state w holds d results g.0 f.0 h)
 
 pub history_gated : GroundLaw → GateLaw → (setting : Setting) (history : List Action) → IsHistory setting history → Gated (state_after setting 0 history (first_state setting)) (results_in setting history)
 history_gated grounds gates setting history g =
-    all_gated grounds gates setting 0 history (first_state setting) _ (λ i t. []) (first_holds setting g.starts) g.genuine (λ i. made_gated gates _ [] (λ token. 0))
+    let may = told_may setting (made_boot setting) (former setting) history g.starts in
+    all_gated grounds gates setting 0 history (first_state setting) _ (λ i t. []) (first_holds setting (told_of setting history) may) g.genuine (first_told setting history may) (λ i. made_gated gates _ [] (λ token. 0))
 
 pub spaced : GroundLaw → GateLaw → SpaceLaw → (setting : Setting) (history : List Action) (node token : ℕ) → IsHistory setting history → SpacesFailures (results_in setting history node token)
 spaced grounds gates spaces setting history node token g = spaces (results_in setting history node token) ((history_gated grounds gates setting history g node).opened token)

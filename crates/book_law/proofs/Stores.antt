@@ -9,7 +9,7 @@ use Rattle.otp_core.specs.Acceptance.{Acceptance, majority_of, size}
 use Rattle.vote_core.specs.Books.{Adds, are_apart, is_number, number_of, with_name}
 use Rattle.vote_core.specs.Numbers.{with_new_row}
 use Rattle.vote_core.specs.Roster.{Roster, with_tokens}
-use Rattle.vote_core.specs.Schedule.{Member, all_most, has_store as has_site, is_member, last_boot, opening_member, set_node, without_node}
+use Rattle.vote_core.specs.Schedule.{Envelope, Member, all_most, has_store as has_site, is_member, last_boot, opening_member, set_node, without_node}
 use Rattle.vote_core.proofs.Basics.{each_append}
 use Rattle.vote_core.proofs.Envelopes.{Posts}
 use Rattle.vote_core.proofs.Names.{not_eqb, same_or_not}
@@ -20,7 +20,7 @@ use Rattle.seat_law.proofs.Below.{added_below, remade_below}
 use Rattle.seat_law.proofs.Relation.{Sim}
 use Rattle.book_law.specs.Lives.{Process, Setting, State, Store, Down, has_row, has_store, may_be_remade, may_enrol, store_at, store_with_row, store_with_rows, with_process}
 use Rattle.book_law.proofs.Actions.{changed}
-use Rattle.book_law.proofs.Effects.{IsSent}
+use Rattle.book_law.proofs.Effects.{HasSent, IsSent}
 use Rattle.book_law.proofs.Fits.{Fits, IsAt, Next, at_stored, by_course, has_own, set_at}
 use Rattle.book_law.proofs.Opened.{IsStored}
 
@@ -122,8 +122,12 @@ module _ (setting : Setting) (e i boot : ℕ) (given : List ℕ) (floor : ℕ �
   unfolding remade
   same_tokens = refl
 
+  remade_grows : (l : Envelope) → HasSent s.seen.own.sent l → HasSent remade.seen.own.sent l
+  unfolding remade
+  remade_grows l k = k
+
   pub remakes : (Q : Acceptance → Type 0) → Next setting e r anew Q
-  remakes Q = by_course setting e s r anew Q sim posts (Remade i boot given floor) remade is_remade same_tokens (λ q h. absurd h) (λ r' sim'. remade_fits)
+  remakes Q = by_course setting e s r anew Q sim posts (Remade i boot given floor) remade is_remade same_tokens (λ q h. absurd h) remade_grows (λ r' sim'. remade_fits)
 
 -- ---- a row more
 
@@ -203,5 +207,9 @@ module _ (setting : Setting) (e i t floor : ℕ) (store : Store) (state : State)
   unfolding enrolled
   enrolled_tokens = refl
 
+  enrolled_grows : (l : Envelope) → HasSent s.seen.own.sent l → HasSent enrolled.seen.own.sent l
+  unfolding enrolled
+  enrolled_grows l k = k
+
   pub enrols : (Q : Acceptance → Type 0) → Next setting e r (changed i (Down (store_with_row t floor store)) [] state) Q
-  enrols Q = by_course setting e s r (changed i (Down (store_with_row t floor store)) [] state) Q sim posts (Runs (Adds i t floor)) enrolled is_enrolled enrolled_tokens (λ q h. absurd h) (λ r' sim'. enrolled_fits)
+  enrols Q = by_course setting e s r (changed i (Down (store_with_row t floor store)) [] state) Q sim posts (Runs (Adds i t floor)) enrolled is_enrolled enrolled_tokens (λ q h. absurd h) enrolled_grows (λ r' sim'. enrolled_fits)

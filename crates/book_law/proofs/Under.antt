@@ -31,7 +31,7 @@ row_off (p ∷ places) [] below k d h = refl
 row_off (p ∷ places) (x ∷ seen) below k d h =
     get_or-set_other (rows_under places seen below) p k x d (λ same. h 0 (ap Some (sym same))) ∙ row_off places seen below k d (λ m at. h (suc m) at)
 
-abbrev Apart : List ℕ → Type 0
+abbrev pub Apart : List ℕ → Type 0
 Apart places = (i j k : ℕ) → slice_get places i ≡ Some k → slice_get places j ≡ Some k → i ≡ j
 
 rest_apart : (p : ℕ) (places : List ℕ) → Apart (p ∷ places) → Apart places
@@ -42,7 +42,7 @@ map_same f g [] h = refl
 map_same f g (p ∷ places) h = ap (λ y. y ∷ map f places) (h 0 p refl) ∙ ap (λ l. g p ∷ l) (map_same f g places (λ m k at. h (suc m) k at))
 
 -- the rows that are put back are seen
-rows_seen : (places : List ℕ) (seen below : List RowRecord) → Apart places → ((m k : ℕ) → slice_get places m ≡ Some k → k < length below) → length seen ≡ length places
+pub rows_seen : (places : List ℕ) (seen below : List RowRecord) → Apart places → ((m k : ℕ) → slice_get places m ≡ Some k → k < length below) → length seen ≡ length places
     → seated_rows places (rows_under places seen below) ≡ seen
 rows_seen [] [] below apart within same = refl
 rows_seen [] (x ∷ seen) below apart within same = absurd (omega (arith, same))

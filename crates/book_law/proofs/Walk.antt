@@ -1,5 +1,5 @@
 -- A history is a run of votes, action by action.
-use Rattle.std.proofs.Common.{◌≡◌, ℕ, zero, suc, true, false, cond, ◌&&◌, List, [], ◌∷◌, map, take, Option, Some, None, refl, sym, ap, ◌∙◌, subst, arith, ltb}
+use Rattle.std.proofs.Common.{◌≡◌, ℕ, zero, suc, true, false, cond, ◌&&◌, List, [], ◌∷◌, ◌++◌, map, take, Option, Some, None, refl, sym, ap, ◌∙◌, subst, arith, ltb}
 use mathlib.Core.Path.{fun_ext}
 use Rattle.std.specs.List.{slice_get}
 use Rattle.std.proofs.lemmas.Bool.{and_parts, cond_both, false≢true}
@@ -18,6 +18,7 @@ use Rattle.vote_core.proofs.Basics.{Each, opening_size}
 use Rattle.vote_core.proofs.Envelopes.{Posts, all_deliverable}
 use Rattle.vote_core.proofs.Unknown.{opening_free}
 use Rattle.cluster_sim.proofs.BelowLaws.{GroundLaw, VoteLaw}
+use Rattle.cluster_sim.proofs.Owners.{get_more}
 use Rattle.cluster_sim.specs.World.{passes_in}
 use Rattle.seat_law.specs.Below.{site_of}
 use Rattle.seat_law.specs.Seats.{Sites, blank_sites}
@@ -25,8 +26,9 @@ use Rattle.seat_law.proofs.Relation.{Sim, free_same, fresh_named}
 use Rattle.book_law.specs.Lives.{Action, Opens, FailsToOpen, Takes, Offers, Stops, StopsIn, Loses, Remakes, Enrols, Unlocks, Raises, AreGenuine, IsGenuineAction, IsGenuineAt, IsHistory, Output, Process, Sealed, Setting, State, Store, Terms, ToPeer, Down, Up, accepted_in, can_be, content_raised, content_unlocked, do_fit, first_state, floor_in, floor_of, has_store, made_boot, may_enrol, node_of_action, process_opened, row_of, seen_in, store_raised, store_unlocked, state_after, state_after_action, state_of, state_with, store_at, store_in_next_boot, store_under, store_with_row}
 use Rattle.book_law.proofs.Actions.{alone, changed, cuts, half_opens, loses, opens, stays, takes}
 use Rattle.book_law.proofs.Commands.{raises, unlocks}
-use Rattle.book_law.proofs.Effects.{Fitted, IsSent}
+use Rattle.book_law.proofs.Effects.{Fitted, HasSent, IsSent}
 use Rattle.book_law.proofs.Fits.{Fits, IsAt, Next, free_is, in_other_words, is_kept}
+use Rattle.book_law.proofs.Floors.{FloorsSentBy, all_grow, told_may, told_of, told_sent}
 use Rattle.book_law.proofs.Opened.{open_stored}
 use Rattle.book_law.proofs.Stores.{enrols, remakes}
 
@@ -113,43 +115,43 @@ module _ (law : GroundLaw) (setting : Setting) (e : ℕ) (state : State) (s : Si
 
   -- an action that is possible, at the node's process
   at_process : (d : Action) (p : Process) → state.processes (node_of_action d) ≡ p → IsAt s.seen.own.sent (state.lost (node_of_action d)) (site_of s (node_of_action d)) p → can_be setting state d ≡ true
-      → IsGenuineAction state d → Next setting e r (state_with setting e d p state) (IsFittedIn state d)
-  at_process (Opens i terms) (Down store) is at can g = opens_here law setting e state s r sim posts fits (IsFittedIn state (Opens i terms)) i terms store can at
-  at_process (Opens i terms) (Up own below node waiting) is at can g = only law setting e state s r sim posts fits (IsFittedIn state (Opens i terms)) i (Up own below node waiting) [] at tt
-  at_process (FailsToOpen i true) (Down store) is at can g = half_here law setting e state s r sim posts fits (IsFittedIn state (FailsToOpen i true)) i store can at
-  at_process (FailsToOpen i false) (Down store) is at can g = only law setting e state s r sim posts fits (IsFittedIn state (FailsToOpen i false)) i (Down store) [] at tt
-  at_process (FailsToOpen i raised) (Up own below node waiting) is at can g = only law setting e state s r sim posts fits (IsFittedIn state (FailsToOpen i raised)) i (Up own below node waiting) [] at tt
-  at_process (Takes i input) (Down store) is at can g = only law setting e state s r sim posts fits (IsFittedIn state (Takes i input)) i (Down store) [] at tt
-  at_process (Takes i input) (Up terms below node waiting) is at can g =
+      → IsGenuineAction state d → FloorsSentBy setting s.seen.own.sent d → Next setting e r (state_with setting e d p state) (IsFittedIn state d)
+  at_process (Opens i terms) (Down store) is at can g f = opens_here law setting e state s r sim posts fits (IsFittedIn state (Opens i terms)) i terms store can at
+  at_process (Opens i terms) (Up own below node waiting) is at can g f = only law setting e state s r sim posts fits (IsFittedIn state (Opens i terms)) i (Up own below node waiting) [] at tt
+  at_process (FailsToOpen i true) (Down store) is at can g f = half_here law setting e state s r sim posts fits (IsFittedIn state (FailsToOpen i true)) i store can at
+  at_process (FailsToOpen i false) (Down store) is at can g f = only law setting e state s r sim posts fits (IsFittedIn state (FailsToOpen i false)) i (Down store) [] at tt
+  at_process (FailsToOpen i raised) (Up own below node waiting) is at can g f = only law setting e state s r sim posts fits (IsFittedIn state (FailsToOpen i raised)) i (Up own below node waiting) [] at tt
+  at_process (Takes i input) (Down store) is at can g f = only law setting e state s r sim posts fits (IsFittedIn state (Takes i input)) i (Down store) [] at tt
+  at_process (Takes i input) (Up terms below node waiting) is at can g f =
       in_other_words (Fitted terms node i input) (FittedAt (state.processes i) i input) (stepped_in i terms below node waiting input is)
-      (takes law setting e i terms below node waiting input state s r sim posts fits can at (subst (λ p. IsGenuineAt p state.offered input) is g))
-  at_process (Offers i) (Down store) is at can g = only law setting e state s r sim posts fits (IsFittedIn state (Offers i)) i (Down store) [] at tt
-  at_process (Offers i) (Up terms below node waiting) is at can g = offers law setting e state s r sim posts fits (IsFittedIn state (Offers i)) i terms below node waiting at
-  at_process (Stops i) (Down store) is at can g = only law setting e state s r sim posts fits (IsFittedIn state (Stops i)) i (Down store) [] at tt
-  at_process (Stops i) (Up terms below node waiting) is at can g = ends law setting e state s r sim posts fits (IsFittedIn state (Stops i)) i terms below node waiting at
-  at_process (StopsIn i true input) (Down store) is at can g = only law setting e state s r sim posts fits (IsFittedIn state (StopsIn i true input)) i (Down store) [] at tt
-  at_process (StopsIn i false input) (Down store) is at can g = only law setting e state s r sim posts fits (IsFittedIn state (StopsIn i false input)) i (Down store) [] at tt
-  at_process (StopsIn i false input) (Up terms below node waiting) is at can g = ends law setting e state s r sim posts fits (IsFittedIn state (StopsIn i false input)) i terms below node waiting at
-  at_process (StopsIn i true input) (Up terms below node waiting) is at can g =
+      (takes law setting e i terms below node waiting input state s r sim posts fits can at (subst (λ p. IsGenuineAt p state.offered input) is g) f)
+  at_process (Offers i) (Down store) is at can g f = only law setting e state s r sim posts fits (IsFittedIn state (Offers i)) i (Down store) [] at tt
+  at_process (Offers i) (Up terms below node waiting) is at can g f = offers law setting e state s r sim posts fits (IsFittedIn state (Offers i)) i terms below node waiting at
+  at_process (Stops i) (Down store) is at can g f = only law setting e state s r sim posts fits (IsFittedIn state (Stops i)) i (Down store) [] at tt
+  at_process (Stops i) (Up terms below node waiting) is at can g f = ends law setting e state s r sim posts fits (IsFittedIn state (Stops i)) i terms below node waiting at
+  at_process (StopsIn i true input) (Down store) is at can g f = only law setting e state s r sim posts fits (IsFittedIn state (StopsIn i true input)) i (Down store) [] at tt
+  at_process (StopsIn i false input) (Down store) is at can g f = only law setting e state s r sim posts fits (IsFittedIn state (StopsIn i false input)) i (Down store) [] at tt
+  at_process (StopsIn i false input) (Up terms below node waiting) is at can g f = ends law setting e state s r sim posts fits (IsFittedIn state (StopsIn i false input)) i terms below node waiting at
+  at_process (StopsIn i true input) (Up terms below node waiting) is at can g f =
       in_other_words (Fitted terms node i input) (FittedAt (state.processes i) i input) (stepped_in i terms below node waiting input is)
-      (cuts law setting e i terms below node waiting input state s r sim posts fits can at (subst (λ p. IsGenuineAt p state.offered input) is g))
-  at_process (Loses i) p is at can g = loses setting e i p state s r sim posts fits can at (IsFittedIn state (Loses i))
-  at_process (Remakes i boot given floor) (Down store) is at can g = remakes setting e i boot given floor (Down store) state s r sim posts fits can at is (IsFittedIn state (Remakes i boot given floor))
-  at_process (Remakes i boot given floor) (Up own below node waiting) is at can g = absurd (lost_up law setting e state s r sim posts fits (IsFittedIn state (Remakes i boot given floor)) i boot given floor own below node waiting at can)
-  at_process (Enrols i t floor) (Down store) is at can g = enrols_here law setting e state s r sim posts fits (IsFittedIn state (Enrols i t floor)) i t floor store can (is_kept setting state i can) at
-  at_process (Enrols i t floor) (Up own below node waiting) is at can g = only law setting e state s r sim posts fits (IsFittedIn state (Enrols i t floor)) i (Up own below node waiting) [] at tt
-  at_process (Unlocks i t) (Down store) is at can g = unlocks_here law setting e state s r sim posts fits (IsFittedIn state (Unlocks i t)) i t store can (is_kept setting state i can) at (row_of store t) refl
-  at_process (Unlocks i t) (Up own below node waiting) is at can g = only law setting e state s r sim posts fits (IsFittedIn state (Unlocks i t)) i (Up own below node waiting) [] at tt
-  at_process (Raises i t floor) (Down store) is at can g = raises_here law setting e state s r sim posts fits (IsFittedIn state (Raises i t floor)) i t floor store can (is_kept setting state i can) at (row_of store t) refl
-  at_process (Raises i t floor) (Up own below node waiting) is at can g = only law setting e state s r sim posts fits (IsFittedIn state (Raises i t floor)) i (Up own below node waiting) [] at tt
+      (cuts law setting e i terms below node waiting input state s r sim posts fits can at (subst (λ p. IsGenuineAt p state.offered input) is g) f)
+  at_process (Loses i) p is at can g f = loses setting e i p state s r sim posts fits can at (IsFittedIn state (Loses i))
+  at_process (Remakes i boot given floor) (Down store) is at can g f = remakes setting e i boot given floor (Down store) state s r sim posts fits can at is (IsFittedIn state (Remakes i boot given floor))
+  at_process (Remakes i boot given floor) (Up own below node waiting) is at can g f = absurd (lost_up law setting e state s r sim posts fits (IsFittedIn state (Remakes i boot given floor)) i boot given floor own below node waiting at can)
+  at_process (Enrols i t floor) (Down store) is at can g f = enrols_here law setting e state s r sim posts fits (IsFittedIn state (Enrols i t floor)) i t floor store can (is_kept setting state i can) at
+  at_process (Enrols i t floor) (Up own below node waiting) is at can g f = only law setting e state s r sim posts fits (IsFittedIn state (Enrols i t floor)) i (Up own below node waiting) [] at tt
+  at_process (Unlocks i t) (Down store) is at can g f = unlocks_here law setting e state s r sim posts fits (IsFittedIn state (Unlocks i t)) i t store can (is_kept setting state i can) at (row_of store t) refl
+  at_process (Unlocks i t) (Up own below node waiting) is at can g f = only law setting e state s r sim posts fits (IsFittedIn state (Unlocks i t)) i (Up own below node waiting) [] at tt
+  at_process (Raises i t floor) (Down store) is at can g f = raises_here law setting e state s r sim posts fits (IsFittedIn state (Raises i t floor)) i t floor store can (is_kept setting state i can) at (row_of store t) refl
+  at_process (Raises i t floor) (Up own below node waiting) is at can g f = only law setting e state s r sim posts fits (IsFittedIn state (Raises i t floor)) i (Up own below node waiting) [] at tt
 
-  pub follows : (d : Action) → IsGenuineAction state d → Next setting e r (state_after_action setting e d state) (IsFittedIn state d)
+  pub follows : (d : Action) → IsGenuineAction state d → FloorsSentBy setting s.seen.own.sent d → Next setting e r (state_after_action setting e d state) (IsFittedIn state d)
   unfolding state_after_action
-  follows d g =
+  follows d g f =
       let i = node_of_action d in
       let p = state.processes i in
       cond_both (can_be setting state d) (state_with setting e d p state) state (λ z. Next setting e r z (IsFittedIn state d))
-      (λ can. at_process d p refl (fits.nodes i) can g)
+      (λ can. at_process d p refl (fits.nodes i) can g f)
       (λ _. stays setting e s r state (IsFittedIn state d) sim posts fits)
 
 -- ---- all actions
@@ -169,18 +171,20 @@ pub record Walked (setting : Setting) (first : ℕ) (history : List Action) (sta
   pub at : (k : ℕ) → Holds setting (state_after setting first (take k history) state) (run first (take k events) w)
   pub fitted : (k : ℕ) (p : Acceptance) → IsProposedIn p (slice_get events k) → IsFittedThere (state_after setting first (take k history) state) (slice_get history k) p
 
-walk : GroundLaw → (setting : Setting) (first : ℕ) (history : List Action) (state : State) (w : Cluster) → Holds setting state w → AreGenuine setting first history state → Walked setting first history state w
+walk : GroundLaw → (setting : Setting) (first : ℕ) (history : List Action) (state : State) (w : Cluster) (holds : Holds setting state w) → AreGenuine setting first history state
+    → Each (FloorsSentBy setting holds.sites.seen.own.sent) history → Walked setting first history state w
 unfolding state_after run AreGenuine
-walk law setting first [] state w h g = record { events = []; whole = h; at = none h; fitted = λ k p q. absurd q }
+walk law setting first [] state w h g f = record { events = []; whole = h; at = none h; fitted = λ k p q. absurd q }
   where
     none : Holds setting state w → (k : ℕ) → Holds setting (state_after setting first (take k []) state) (run first (take k []) w)
     none h zero = h
     none h (suc k) = h
-walk law setting first (d ∷ history) state w h g =
-    let next = follows law setting first state h.sites h.roster h.sim h.posts h.fits d g.0 in
+walk law setting first (d ∷ history) state w h g f =
+    let next = follows law setting first state h.sites h.roster h.sim h.posts h.fits d g.0 f.0 in
     let now : Holds setting (state_after_action setting first d state) (after_event first next.event w) =
     record { sites = next.sites; roster = next.roster; sim = next.sim; posts = next.posts; fits = next.fits; same = next.same ∙ ap (after_event first next.event) h.same } in
-    let rest = walk law setting (suc first) history (state_after_action setting first d state) (after_event first next.event w) now g.1 in
+    let rest = walk law setting (suc first) history (state_after_action setting first d state) (after_event first next.event w) now g.1
+    (all_grow setting h.sites.seen.own.sent next.sites.seen.own.sent history (λ l k. next.grows l (subst (λ sent. HasSent sent l) (sym h.sim.sent) k)) f.1) in
     record { events = next.event ∷ rest.events; whole = rest.whole; at = each next.event rest h; fitted = all_fitted next.event rest next.proposed }
   where
     each : (x : Event) → (rest : Walked setting (suc first) history (state_after_action setting first d state) (after_event first x w)) → Holds setting state w
@@ -199,91 +203,98 @@ module _ (setting : Setting) where
   abbrev pub former : List Envelope
   former = map (λ (sealed : Sealed). sealed.envelope) setting.old
 
-  abbrev opening : Opening
-  opening = blank_opening (made_boot setting) former
-
-  abbrev blank : Sites
-  blank = blank_sites setting.n setting.tokens (made_boot setting) former
-
-  abbrev start : Cluster
-  start = vote_start setting.n setting.tokens opening
-
-  blank_posts : MayOpen setting.n setting.tokens opening → Posts setting.tokens start
-  blank_posts may = record {
-    nodes = λ node. record { rows = opening_size setting.tokens (λ token. 0); pending = tt };
-    sent = all_deliverable setting.n setting.tokens former (λ j m is. (may j m is).0);
-  }
-
-  blank_sim : Sim blank (opened setting.n setting.tokens opening none_enrolled)
-  blank_sim = record {
-    members = refl;
-    lost = refl;
-    least = λ t. refl;
-    sent = refl;
-    begun = refl;
-    accepted = refl;
-    nodes = λ i. record {
-      content = record {
-        one = λ j m a _ _. absurd (omega (arith, a));
-        there = λ m a. absurd (omega (arith, a));
-        rows = λ m a. absurd (omega (arith, a));
-        boot = refl;
-        last = refl;
-        last_known = λ z e. absurd (none-some z e);
-      };
-      voter = fresh_named (λ number. 0) 0;
-      running = refl;
-      last = refl;
-      on_is = λ t. refl;
-      seated = λ m a. absurd (omega (arith, a));
-      within = λ t on. absurd (false≢true on);
-      away = λ t on _. absurd (false≢true on);
-      free = λ t _. opening_free setting.tokens (λ token. 0) t refl;
-    };
-  }
-
   old_sent : (xs : List Sealed) (sent : List Envelope) → ((k : ℕ) (l : Envelope) → slice_get (map (λ (sealed : Sealed). sealed.envelope) xs) k ≡ Some l → (m : ℕ) × (slice_get sent m ≡ Some l))
       → Each (IsSent sent) (map (λ (sealed : Sealed). ToPeer sealed) xs)
   old_sent [] sent h = tt
   old_sent (x ∷ xs) sent h = (h 0 _ refl, old_sent xs sent (λ k l at. h (suc k) l at))
 
-  blank_fits : Fits setting (first_state setting) blank
-  blank_fits = record {
-    tokens = refl;
-    n = refl;
-    lost = refl;
-    least = refl;
-    begun = refl;
-    accepted = refl;
-    offered = old_sent setting.old former (λ k l at. (k, at));
-    nodes = λ j. (
-      record {
-        seats = [];
-        below = record {
-          are = record { within = λ i seat at. absurd (none-some seat at); apart = λ i l seat at other. absurd (none-some seat at) };
-          one = λ i k a d e. absurd (omega (arith, a));
-          seen = refl;
-          names = λ k a. absurd (omega (arith, a));
-          aside = λ k a unseen. absurd (omega (arith, a));
-          enrolled = λ t. refl;
+  -- with further messages on their way
+  module _ (told : List Envelope) where
+    abbrev opening : Opening
+    opening = blank_opening (made_boot setting) (former ++ told)
+
+    abbrev blank : Sites
+    blank = blank_sites setting.n setting.tokens (made_boot setting) (former ++ told)
+
+    abbrev start : Cluster
+    start = vote_start setting.n setting.tokens opening
+
+    blank_posts : MayOpen setting.n setting.tokens opening → Posts setting.tokens start
+    blank_posts may = record {
+      nodes = λ node. record { rows = opening_size setting.tokens (λ token. 0); pending = tt };
+      sent = all_deliverable setting.n setting.tokens (former ++ told) (λ j m is. (may j m is).0);
+    }
+
+    blank_sim : Sim blank (opened setting.n setting.tokens opening none_enrolled)
+    blank_sim = record {
+      members = refl;
+      lost = refl;
+      least = λ t. refl;
+      sent = refl;
+      begun = refl;
+      accepted = refl;
+      nodes = λ i. record {
+        content = record {
+          one = λ j m a _ _. absurd (omega (arith, a));
+          there = λ m a. absurd (omega (arith, a));
+          rows = λ m a. absurd (omega (arith, a));
+          boot = refl;
           last = refl;
           last_known = λ z e. absurd (none-some z e);
         };
-        size = refl;
-      },
-      λ kept. refl,
-    );
-  }
+        voter = fresh_named (λ number. 0) 0;
+        running = refl;
+        last = refl;
+        on_is = λ t. refl;
+        seated = λ m a. absurd (omega (arith, a));
+        within = λ t on. absurd (false≢true on);
+        away = λ t on _. absurd (false≢true on);
+        free = λ t _. opening_free setting.tokens (λ token. 0) t refl;
+      };
+    }
 
-  pub first_holds : MayOpen setting.n setting.tokens opening → Holds setting (first_state setting) start
-  first_holds may = record {
-    sites = blank;
-    roster = opened setting.n setting.tokens opening none_enrolled;
-    sim = blank_sim;
-    posts = blank_posts may;
-    fits = blank_fits;
-    same = refl;
-  }
+    blank_fits : Fits setting (first_state setting) blank
+    blank_fits = record {
+      tokens = refl;
+      n = refl;
+      lost = refl;
+      least = refl;
+      begun = refl;
+      accepted = refl;
+      offered = old_sent setting.old (former ++ told) (λ k l at. (k, get_more former told k l at));
+      nodes = λ j. (
+        record {
+          seats = [];
+          below = record {
+            are = record { within = λ i seat at. absurd (none-some seat at); apart = λ i l seat at other. absurd (none-some seat at) };
+            one = λ i k a d e. absurd (omega (arith, a));
+            seen = refl;
+            names = λ k a. absurd (omega (arith, a));
+            aside = λ k a unseen. absurd (omega (arith, a));
+            enrolled = λ t. refl;
+            last = refl;
+            last_known = λ z e. absurd (none-some z e);
+          };
+          size = refl;
+        },
+        λ kept. refl,
+      );
+    }
+
+    pub first_holds : MayOpen setting.n setting.tokens opening → Holds setting (first_state setting) start
+    first_holds may = record {
+      sites = blank;
+      roster = opened setting.n setting.tokens opening none_enrolled;
+      sim = blank_sim;
+      posts = blank_posts may;
+      fits = blank_fits;
+      same = refl;
+    }
+
+  -- the floors of a history's inputs are among the first messages
+  pub first_told : (history : List Action) (may : MayOpen setting.n setting.tokens (opening (told_of setting history))) → Each (FloorsSentBy setting (first_holds (told_of setting history) may).sites.seen.own.sent) history
+  unfolding first_holds
+  first_told history may = told_sent setting former history
 
   -- ---- the promises of votes
 
@@ -296,33 +307,39 @@ module _ (setting : Setting) where
       ∙ free_is h.sites i t h.sites.seen.own.sent (state.lost i) (state.processes i) (h.fits.nodes i)
 
   module _ (law : GroundLaw) (votes : VoteLaw) (history : List Action) (g : IsHistory setting history) where
-    pub walked : Walked setting 0 history (first_state setting) start
-    walked = walk law setting 0 history (first_state setting) start (first_holds g.starts) g.genuine
+    abbrev told : List Envelope
+    told = told_of setting history
 
-    taken : acceptances setting.n setting.tokens opening walked.events ≡ accepted_in setting history
-    taken = holds_accepted (state_of setting history) (run 0 walked.events start) walked.whole
+    starts : MayOpen setting.n setting.tokens (opening told)
+    starts = told_may setting (made_boot setting) former history g.starts
 
-    floors : floor_before setting.n setting.tokens opening walked.events ≡ floor_in setting history
+    pub walked : Walked setting 0 history (first_state setting) (start told)
+    walked = walk law setting 0 history (first_state setting) (start told) (first_holds told starts) g.genuine (first_told history starts)
+
+    taken : acceptances setting.n setting.tokens (opening told) walked.events ≡ accepted_in setting history
+    taken = holds_accepted (state_of setting history) (run 0 walked.events (start told)) walked.whole
+
+    floors : floor_before setting.n setting.tokens (opening told) walked.events ≡ floor_in setting history
     floors = fun_ext (λ i. fun_ext (λ t. fun_ext (λ e.
-        holds_floor (state_of setting (take e history)) (run 0 (take e walked.events) start) i t (walked.at e))))
+        holds_floor (state_of setting (take e history)) (run 0 (take e walked.events) (start told)) i t (walked.at e))))
 
     -- the action in which an acceptance began proposed it
     pub fitted_there : (i : ℕ) (p : Acceptance) → slice_get (accepted_in setting history) i ≡ Some p → IsFittedThere (state_of setting (take p.began history)) (slice_get history p.began) p
     fitted_there i p at =
-        walked.fitted p.began p (votes.proposed setting.n setting.tokens opening walked.events g.starts i p (ap (λ l. slice_get l i) taken ∙ at))
+        walked.fitted p.began p (votes.proposed setting.n setting.tokens (opening told) walked.events starts i p (ap (λ l. slice_get l i) taken ∙ at))
 
     -- the sites before an action
-    pub holds_before : (k : ℕ) → Holds setting (state_of setting (take k history)) (run 0 (take k walked.events) start)
+    pub holds_before : (k : ℕ) → Holds setting (state_of setting (take k history)) (run 0 (take k walked.events) (start told))
     holds_before k = walked.at k
 
     pub single_use : HaveSingleUse (accepted_in setting history)
-    single_use = subst HaveSingleUse taken (votes.single_use setting.n setting.tokens opening walked.events g.starts)
+    single_use = subst HaveSingleUse taken (votes.single_use setting.n setting.tokens (opening told) walked.events starts)
 
     pub in_order : KeepRealTimeOrder (accepted_in setting history)
-    in_order = subst KeepRealTimeOrder taken (votes.in_order setting.n setting.tokens opening walked.events g.starts)
+    in_order = subst KeepRealTimeOrder taken (votes.in_order setting.n setting.tokens (opening told) walked.events starts)
 
     pub majority : HaveMajority setting.n (floor_in setting history) (accepted_in setting history)
     majority =
         subst (HaveMajority setting.n (floor_in setting history)) taken
-        (subst (λ f. HaveMajority setting.n f (acceptances setting.n setting.tokens opening walked.events)) floors
-        (votes.majority setting.n setting.tokens opening walked.events g.starts))
+        (subst (λ f. HaveMajority setting.n f (acceptances setting.n setting.tokens (opening told) walked.events)) floors
+        (votes.majority setting.n setting.tokens (opening told) walked.events starts))

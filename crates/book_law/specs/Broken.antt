@@ -2,10 +2,11 @@
 use Rattle.std.specs.Prelude.{ℕ, true, List, [], ◌∷◌, ◌++◌, Some, codes}
 use Rattle.floor_store.specs.Records.{span_of}
 use Rattle.otp_core.specs.Acceptance.{Acceptance}
-use Rattle.vote_core.specs.declared.message.Message.TheVariants.{Floor, Grant}
+use Rattle.vote_core.specs.declared.message.Message.{Message}
+use Rattle.vote_core.specs.declared.message.Message.TheVariants.{Deny, Floor, Grant}
 use Rattle.oath_node.specs.Machine.{NodeEvent, Peer, opened_node}
 use Rattle.cluster_sim.specs.World.{passes_in}
-use Rattle.book_law.specs.Examples.{alone, ask_for, both_open, enrolled, first_key, grant_for, line, maple, maple_line, proposal_of_boot, silver, silver_alone, silver_first, silver_line, terms_of, three}
+use Rattle.book_law.specs.Examples.{alone, ask_for, both_open, enrolled, first_key, from_peer, grant_for, line, maple, maple_line, proposal_of_boot, silver, silver_accepted, silver_alone, silver_first, silver_line, terms_of, three}
 use Rattle.book_law.specs.Lives.{Action, Opens, Takes, Offers, Stops, StopsIn, Enrols, Process, Setting, State, Store, Terms, Down, Up, first_state, seen_in, state_after, store_with_row, store_with_rows}
 
 -- ---- Envelopes
@@ -27,10 +28,33 @@ forged = both_open ++ Takes 1 (grant_for 0) ∷ []
 abbrev pub forged_in_a_stop : List Action
 forged_in_a_stop = both_open ++ StopsIn 1 true (grant_for 0) ∷ []
 
+-- a Deny that node 2 never made arrives at node 1
+abbrev pub forged_denial : List Action
+forged_denial = both_open ++ Takes 1 (from_peer 2 1 (Deny (proposal_of_boot 1 1) 0 4)) ∷ []
+
+-- node 2 tells node 1 the floor of a number of node 1, which no turn of node 2 offered
+abbrev pub tells : ℕ → ℕ → List Action
+tells number floor = both_open ++ Takes 1 (from_peer 2 1 (Floor number floor)) ∷ []
+
+-- the same inside a stop
+abbrev pub tells_in_a_stop : List Action
+tells_in_a_stop = both_open ++ StopsIn 1 true (from_peer 2 1 (Floor 0 9)) ∷ []
+
+-- node 1 is told silver's floor 9, which no store has, and silver's line comes
+abbrev pub locks_out : List Action
+locks_out = tells 0 9 ++ Takes 1 silver_line ∷ Offers 1 ∷ []
+
+-- node 1 is told silver's floor 0 after her login
+abbrev pub tells_less : List Action
+tells_less = silver_accepted ++ Takes 1 (from_peer 2 1 (Floor 0 0)) ∷ []
+
+-- node 2's Grant of factor 0 for the first proposal of node 1
+abbrev pub first_grant : Message
+first_grant = Grant (proposal_of_boot 1 1) 0 (span_of 0 0)
+
 -- an envelope of node 2 comes from node 3's address
 abbrev pub from_another : List Action
-from_another =
-    both_open ++ Takes 1 (Peer 3 (Some (record { sender = 2; receiver = 1; message = Floor 0 4 }))) ∷ []
+from_another = both_open ++ Takes 1 (Peer 3 (Some (record { sender = 2; receiver = 1; message = first_grant }))) ∷ []
 
 -- the Grant is under a number that node 1 doesn't have
 abbrev pub unknown_number : List Action

@@ -186,6 +186,16 @@ silver_alone = terms_of first_key (silver ∷ []) (0 ∷ [])
 abbrev pub takes_silver : List Action
 takes_silver = has_silver ++ Opens 1 silver_alone ∷ Takes 1 silver_line ∷ []
 
+-- Node 2 tells node 1 silver's floor 4, which its store has. Node 1's number for silver is 1 (action 4).
+abbrev pub tells_held : List Action
+tells_held =
+    Enrols 1 0 0 ∷ Enrols 1 1 0 ∷ Enrols 2 0 4 ∷ Opens 1 maple_first ∷ Takes 1 (from_peer 2 1 (Floor 1 4)) ∷ []
+
+-- node 2 tells silver's floor 4 before its store has it
+abbrev pub tells_early : List Action
+tells_early =
+    Enrols 1 0 0 ∷ Enrols 2 0 0 ∷ Opens 1 silver_alone ∷ Takes 1 (from_peer 2 1 (Floor 0 4)) ∷ Raises 2 0 4 ∷ []
+
 -- a process ends inside the step of the line
 abbrev pub ends_in_the_step : Bool → List Action
 ends_in_the_step kept = has_silver ++ Opens 1 silver_alone ∷ StopsIn 1 kept silver_line ∷ []

@@ -1,5 +1,6 @@
 pub mod Broken
 pub mod Examples
+pub mod Floors
 pub mod Justified
 pub mod Lives
 pub mod Promises

@@ -21,6 +21,7 @@ use Rattle.vote_core.specs.Safety.{MayOpen}
 use Rattle.vote_core.specs.Schedule.{Envelope, all_most, content_with_gate, envelope_from, greatest, is_member, last_boot, without_node}
 use Rattle.vote_core.specs.Voting.{raise}
 use Rattle.vote_core.specs.declared.message.Message.{Message}
+use Rattle.vote_core.specs.declared.message.Message.TheVariants.{Ask, Grant, Deny, Floor}
 use Rattle.oath_node.specs.Machine.{Beginning, Config, Made, NodeEvent, NodeState, Client, Peer, Tick, made_by_event, opened_node, token_of}
 use Rattle.cluster_sim.specs.World.{Answer, Note, note_anew, passes_in, told_reply}
 use Rattle.seat_law.specs.Seats.{made_floor, seat_name}
@@ -422,14 +423,24 @@ pub record WasOffered (offered : List Output) (sealed : Sealed) : Type 0 where
   pub place : ℕ
   pub is_there : slice_get offered place ≡ Some (ToPeer sealed)
 
--- An envelope that a process reads from its sender's own address is genuine if it was offered before. A process offered
--- it under the same key, and under the canonical token of the reader's number. Envelopes about a number without a seat,
--- envelopes from another address, lines and the passage of time are free.
+-- the message is part of a vote, and doesn't only tell a floor
+abbrev pub IsOfVote : Message → Type 0
+IsOfVote (Ask proposal token span) = Unit {0}
+IsOfVote (Grant proposal token span) = Unit {0}
+IsOfVote (Deny proposal token next) = Unit {0}
+IsOfVote (Floor token next) = ⊥
+
+-- An envelope of a vote that a process reads from its sender's own address is genuine if it was offered before. A
+-- process offered it under the same key, and under the canonical token of the reader's number.
+--
+-- Envelopes that only tell a floor are free: processes tell floors at any time, also in bulk. Anybody may tell any
+-- floor. Envelopes about a number without a seat, envelopes from another address, lines and the passage of time are
+-- free too.
 abbrev pub IsGenuine : Terms → List Output → NodeEvent → Type 0
 IsGenuine terms offered (Client client moment line) = Unit {0}
 IsGenuine terms offered (Peer from None) = Unit {0}
 IsGenuine terms offered (Peer from (Some envelope)) =
-    envelope.sender ≡ from → token_of envelope.message < length terms.seats
+    envelope.sender ≡ from → IsOfVote envelope.message → token_of envelope.message < length terms.seats
     → WasOffered offered (record { key = terms.key; envelope = named_envelope terms.seats envelope })
 IsGenuine terms offered Tick = Unit {0}
 
@@ -451,8 +462,8 @@ AreGenuine setting first (action ∷ actions) state =
     IsGenuineAction state action
     × AreGenuine setting (suc first) actions (state_after_action setting first action state)
 
--- A history of nodes: actions without an envelope forged under a key. Envelopes from before fit, and are of boots
--- before those of the first stores.
+-- A history of nodes: actions without an envelope of a vote that is forged under a key. Envelopes from before fit, and
+-- are of boots before those of the first stores.
 pub record IsHistory (setting : Setting) (history : List Action) : Type 0 where
   pub starts : MayOpen setting.n setting.tokens
       (blank_opening (made_boot setting) (map (λ (sealed : Sealed). sealed.envelope) setting.old))

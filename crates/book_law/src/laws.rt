@@ -24,8 +24,9 @@ ghost use Rattle.vote_core.specs.Cases.{accepted};
 ghost use Rattle.vote_core.specs.declared.message.Message.TheVariants.{Floor};
 ghost use Rattle.vote_core.specs.Safety.{HaveMajority};
 ghost use Rattle.vote_core.specs.Schedule.{is_member, last_boot};
-ghost use Rattle.book_law.specs.Broken.{ask_comes, ask_comes_early, equal_seats, forged, forged_in_a_stop, from_another, no_row, old_grant, taken, taken_from, taken_later, takes_again, takes_and_enrols, takes_both, to_nobody, two_rows_of_silver, unknown_number};
-ghost use Rattle.book_law.specs.Examples.{alone, among_another, answers_silver, ask_for, drifted, hurries, idle_among_another, idle_use, old_floor, second_reply, silver_ok, silver_pass, silver_row, silver_text, three_uses, two_replies, two_writes, ends_in_the_step, fails_twice, first_key, has_silver, late, loses_one, maple, maple_accepted, maple_alone, maple_first, old_floor_comes, one_row, other_key, pass_at, process_of_1, remade_with, row_from, shut_rows, silver, silver_accepted, silver_alone, silver_first, silver_goes, silver_line, silver_returns, store_of_1, takes_silver, terms_of, three, three_with_old, two_rows, under_another_key};
+ghost use Rattle.book_law.specs.Broken.{ask_comes, ask_comes_early, equal_seats, forged, forged_denial, forged_in_a_stop, from_another, locks_out, no_row, old_grant, taken, taken_from, taken_later, takes_again, takes_and_enrols, takes_both, tells, tells_in_a_stop, tells_less, to_nobody, two_rows_of_silver, unknown_number};
+ghost use Rattle.book_law.specs.Examples.{alone, among_another, answers_silver, ask_for, drifted, hurries, idle_among_another, idle_use, old_floor, second_reply, silver_ok, silver_pass, silver_row, silver_text, three_uses, two_replies, two_writes, ends_in_the_step, fails_twice, first_key, has_silver, late, loses_one, maple, maple_accepted, maple_alone, maple_first, old_floor_comes, one_row, other_key, pass_at, process_of_1, remade_with, row_from, shut_rows, silver, silver_accepted, silver_alone, silver_first, silver_goes, silver_line, silver_returns, store_of_1, takes_silver, tells_early, tells_held, terms_of, three, three_with_old, two_rows, under_another_key};
+ghost use Rattle.book_law.specs.Floors.{IsTakenInAction, TellsHeld, WasHeld, WasHeldSomewhere};
 ghost use Rattle.book_law.specs.Justified.{IsJustifiedInAction, JustifiesAll, drift_in, drift_of};
 ghost use Rattle.book_law.specs.Lives.{Action, Down, ToClient, ToPeer, Enrols, FailsToOpen, IsHistory, Loses, Offers, Opens, Raises, Remakes, Setting, Stops, StopsIn, Store, Takes, Terms, Unlocks, Up, accepted_in, answered_in, floor_in, floor_of, rows_under, seen_in, state_of, store_at, store_in_next_boot, store_raised, store_under, store_unlocked, store_with_rows};
 ghost use Rattle.book_law.specs.Promises.{AnswerTruly, BelongsToAcceptance, IsAskedInAction, IsSaidInAction};
@@ -38,6 +39,8 @@ use oath_node::rulings_have_grounds;
 use vote_core::votes_are_safe;
 
 /// Safety of books: in every history of nodes, acceptances are safe, whatever terms its processes have.
+///
+/// Any floors may be told at any time, also forged ones. One that is too high locks a user out, and breaks no promise.
 pub fn books_are_safe()
     ensures single_use { (setting : Setting) (history : List Action) → IsHistory setting history
         → HaveSingleUse (accepted_in setting history) }
@@ -63,6 +66,16 @@ pub fn books_are_safe()
     failures_are_spaced();
 }
 
+/// Told floors: a floor that its teller's store held raises no floor above all that stores held.
+pub fn held_floors_raise_no_further()
+    ensures { (setting : Setting) (history : List Action) (action node token : ℕ) → IsHistory setting history
+        → TellsHeld setting history action
+        → WasHeldSomewhere setting history action token (floor_in setting history node token (suc action)) }
+{
+    votes_are_safe();
+    rulings_have_grounds();
+}
+
 /// Processes: over any store, a process that `Node::open` opened over a seated store and `run_turns` served is a use.
 ///
 /// It is one at every end of the turns, with everything that a stop leaves of what it sees.
@@ -79,7 +92,7 @@ pub fn served_nodes_are_processes<S: FloorStore>()
 
 /// One history: the processes and commands of all nodes, each on what the one before it left, have a history.
 ///
-/// If no envelope is forged in it, all promises of histories hold of these processes.
+/// If no envelope of a vote is forged in it, all promises of histories hold of these processes.
 pub fn uses_make_histories()
     ensures history { (setting : Setting) (uses : ℕ → List StoreUse) → AreAllUses setting uses
         → HasHistory setting uses }
@@ -123,6 +136,13 @@ pub fn books_are_worked()
     ensures floor_under_another_key { floor_in three under_another_key 2 0 9 ≡ 0 }
     ensures old_envelope { floor_in three_with_old old_floor_comes 1 0 6 ≡ 4 }
     ensures old_envelope_for_another { floor_in three_with_old old_floor_comes 1 1 6 ≡ 0 }
+    // A floor that anybody tells raises a lower one. One that is too high locks the user out.
+    ensures told_floor { floor_in three (tells 0 9) 1 0 7 ≡ 9 }
+    ensures told_floor_of_another { floor_in three (tells 1 9) 1 0 7 ≡ 0 }
+    ensures told_by_another { floor_in three (tells 0 9) 2 0 7 ≡ 0 }
+    ensures told_less { floor_in three tells_less 1 0 14 ≡ 1 }
+    ensures locked_out { answered_in three locks_out ≡ told_outcome 7 1 7 (codes "1") (Refused Invalid) ∷ [] }
+    ensures locked_out_passes { accepted_in three locks_out ≡ [] }
 
     // What a process sees of a store, and what it leaves.
     ensures seen { seen_in (two_rows (Some (pass_at 1))) (3 ∷ 5 ∷ [])
@@ -232,6 +252,10 @@ pub fn books_can_be_broken()
     ensures of_another_token { IsHistory three (ask_comes maple_first (ask_for 0)) → ⊥ }
     ensures never_made { IsHistory three forged → ⊥ }
     ensures never_made_in_a_stop { IsHistory three forged_in_a_stop → ⊥ }
+    ensures never_denied { IsHistory three forged_denial → ⊥ }
+    // Nobody need have offered an envelope that only tells a floor, whatever floor it tells.
+    ensures told_by_nobody { IsHistory three locks_out }
+    ensures told_by_nobody_in_a_stop { IsHistory three tells_in_a_stop }
     ensures from_another { IsHistory three from_another }
     ensures unknown_number { IsHistory three unknown_number }
     ensures to_nobody { IsHistory three to_nobody }
@@ -243,6 +267,29 @@ pub fn books_can_be_broken()
     ensures seat_without_a_row { HaveSingleUse (taken_from no_row takes_and_enrols) → ⊥ }
     ensures second_row { HaveSingleUse (taken_later two_rows_of_silver takes_again) → ⊥ }
     ensures one_row { taken_later taken takes_again ≡ accepted 2 2 1 0 0 0 ∷ [] }
+{}
+
+/// Worked cases and counterexamples: each condition of a floor that is told and was held.
+pub fn told_floors_can_be_broken()
+    ensures held { TellsHeld three tells_held 4 }
+    ensures held_floor { floor_in three tells_held 1 0 5 ≡ 4 }
+    ensures was_held { WasHeld three tells_held 4 2 0 4 }
+    ensures less_was_held { WasHeld three tells_held 4 2 0 3 }
+    ensures more_was_not_held { WasHeld three tells_held 4 2 0 5 → ⊥ }
+    ensures not_held_at_another_node { WasHeld three tells_held 4 1 0 4 → ⊥ }
+    ensures not_held_of_another_token { WasHeld three tells_held 4 2 1 4 → ⊥ }
+    ensures held_later { floor_in three tells_early 2 0 5 ≡ 4 }
+    ensures not_held_yet { WasHeld three tells_early 3 2 0 4 → ⊥ }
+    ensures not_held { WasHeld three locks_out 6 2 0 9 → ⊥ }
+    ensures tells_too_high { TellsHeld three locks_out 6 → ⊥ }
+    ensures tells_by_a_line { TellsHeld three locks_out 7 → ⊥ }
+    ensures tells_by_an_offer { TellsHeld three locks_out 8 → ⊥ }
+    ensures taken { IsTakenInAction 1 Tick (Some (Takes 1 Tick)) }
+    ensures taken_in_a_stop { IsTakenInAction 1 Tick (Some (StopsIn 1 false Tick)) }
+    ensures taken_elsewhere { IsTakenInAction 2 Tick (Some (Takes 1 Tick)) → ⊥ }
+    ensures taken_in_a_stop_elsewhere { IsTakenInAction 2 Tick (Some (StopsIn 1 false Tick)) → ⊥ }
+    ensures taken_another { IsTakenInAction 1 Tick (Some (Takes 1 silver_line)) → ⊥ }
+    ensures taken_another_in_a_stop { IsTakenInAction 1 Tick (Some (StopsIn 1 true silver_line)) → ⊥ }
 {}
 
 /// Counterexamples: each promise of an answer fails for a minimal one.

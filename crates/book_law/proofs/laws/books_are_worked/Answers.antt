@@ -64,6 +64,30 @@ pub returns-clause-old_envelope_for_another : goal.returns-clause-old_envelope_f
 unfolding code_at first_words schedule rounds compress hash_after digest_bytes sha1 state_after state_after_action results_after results_after_action made_by_event made_while_running made_by_datagram made_by_ruling made_by_proposal propose propose_alone propose_among on_ask accept count_grant on_grant raise count_deny on_deny on_floor on_message tick
 returns-clause-old_envelope_for_another c = refl
 
+pub returns-clause-told_floor : goal.returns-clause-told_floor
+unfolding code_at first_words schedule rounds compress hash_after digest_bytes sha1 state_after state_after_action results_after results_after_action made_by_event made_while_running made_by_datagram made_by_ruling made_by_proposal propose propose_alone propose_among on_ask accept count_grant on_grant raise count_deny on_deny on_floor on_message tick
+returns-clause-told_floor c = refl
+
+pub returns-clause-told_floor_of_another : goal.returns-clause-told_floor_of_another
+unfolding code_at first_words schedule rounds compress hash_after digest_bytes sha1 state_after state_after_action results_after results_after_action made_by_event made_while_running made_by_datagram made_by_ruling made_by_proposal propose propose_alone propose_among on_ask accept count_grant on_grant raise count_deny on_deny on_floor on_message tick
+returns-clause-told_floor_of_another c = refl
+
+pub returns-clause-told_by_another : goal.returns-clause-told_by_another
+unfolding code_at first_words schedule rounds compress hash_after digest_bytes sha1 state_after state_after_action results_after results_after_action made_by_event made_while_running made_by_datagram made_by_ruling made_by_proposal propose propose_alone propose_among on_ask accept count_grant on_grant raise count_deny on_deny on_floor on_message tick
+returns-clause-told_by_another c = refl
+
+pub returns-clause-told_less : goal.returns-clause-told_less
+unfolding code_at first_words schedule rounds compress hash_after digest_bytes sha1 state_after state_after_action results_after results_after_action made_by_event made_while_running made_by_datagram made_by_ruling made_by_proposal propose propose_alone propose_among on_ask accept count_grant on_grant raise count_deny on_deny on_floor on_message tick
+returns-clause-told_less c = refl
+
+pub returns-clause-locked_out : goal.returns-clause-locked_out
+unfolding code_at first_words schedule rounds compress hash_after digest_bytes sha1 state_after state_after_action results_after results_after_action made_by_event made_while_running made_by_datagram made_by_ruling made_by_proposal propose propose_alone propose_among on_ask accept count_grant on_grant raise count_deny on_deny on_floor on_message tick
+returns-clause-locked_out c = refl
+
+pub returns-clause-locked_out_passes : goal.returns-clause-locked_out_passes
+unfolding code_at first_words schedule rounds compress hash_after digest_bytes sha1 state_after state_after_action results_after results_after_action made_by_event made_while_running made_by_datagram made_by_ruling made_by_proposal propose propose_alone propose_among on_ask accept count_grant on_grant raise count_deny on_deny on_floor on_message tick
+returns-clause-locked_out_passes c = refl
+
 pub returns-clause-seen : goal.returns-clause-seen
 unfolding code_at first_words schedule rounds compress hash_after digest_bytes sha1 state_after state_after_action results_after results_after_action made_by_event made_while_running made_by_datagram made_by_ruling made_by_proposal propose propose_alone propose_among on_ask accept count_grant on_grant raise count_deny on_deny on_floor on_message tick
 returns-clause-seen c = refl

@@ -50,39 +50,51 @@ no_old i envelope at = none-some envelope at
 
 pub returns-clause-history : goal.returns-clause-history
 unfolding code_at first_words schedule rounds compress hash_after digest_bytes sha1 AreGenuine state_after state_after_action made_by_event made_while_running made_by_datagram made_by_ruling made_by_proposal propose propose_alone propose_among on_ask accept count_grant on_grant raise count_deny on_deny on_floor on_message tick
-returns-clause-history c = record { starts = λ i envelope at. absurd (no_old i envelope at); genuine = (tt, (tt, (tt, (tt, (tt, (tt, (tt, (tt, ((λ from within. record { place = 0; is_there = refl }), tt))))))))) }
+returns-clause-history c = record { starts = λ i envelope at. absurd (no_old i envelope at); genuine = (tt, (tt, (tt, (tt, (tt, (tt, (tt, (tt, ((λ from vote within. record { place = 0; is_there = refl }), tt))))))))) }
 
 pub returns-clause-early : goal.returns-clause-early
 unfolding code_at first_words schedule rounds compress hash_after digest_bytes sha1 AreGenuine state_after state_after_action made_by_event made_while_running made_by_datagram made_by_ruling made_by_proposal propose propose_alone propose_among on_ask accept count_grant on_grant raise count_deny on_deny on_floor on_message tick
-returns-clause-early c h = nothing_offered _ (h.genuine.1.1.1.1.1.1.1.0 refl (omega arith))
+returns-clause-early c h = nothing_offered _ (h.genuine.1.1.1.1.1.1.1.0 refl tt (omega arith))
 
 pub returns-clause-under_another_key : goal.returns-clause-under_another_key
 unfolding code_at first_words schedule rounds compress hash_after digest_bytes sha1 AreGenuine state_after state_after_action made_by_event made_while_running made_by_datagram made_by_ruling made_by_proposal propose propose_alone propose_among on_ask accept count_grant on_grant raise count_deny on_deny on_floor on_message tick
 returns-clause-under_another_key c h =
-    let keys : 1 ≡ 2 = ap key_of (only _ _ (h.genuine.1.1.1.1.1.1.1.1.0 refl (omega arith))) in
+    let keys : 1 ≡ 2 = ap key_of (only _ _ (h.genuine.1.1.1.1.1.1.1.1.0 refl tt (omega arith))) in
     omega (arith, keys)
 
 pub returns-clause-of_another_token : goal.returns-clause-of_another_token
 unfolding code_at first_words schedule rounds compress hash_after digest_bytes sha1 AreGenuine state_after state_after_action made_by_event made_while_running made_by_datagram made_by_ruling made_by_proposal propose propose_alone propose_among on_ask accept count_grant on_grant raise count_deny on_deny on_floor on_message tick
 returns-clause-of_another_token c h =
-    let tokens : 0 ≡ 1 = ap token_in (only _ _ (h.genuine.1.1.1.1.1.1.1.1.0 refl (omega arith))) in
+    let tokens : 0 ≡ 1 = ap token_in (only _ _ (h.genuine.1.1.1.1.1.1.1.1.0 refl tt (omega arith))) in
     omega (arith, tokens)
 
 pub returns-clause-never_made : goal.returns-clause-never_made
 unfolding code_at first_words schedule rounds compress hash_after digest_bytes sha1 AreGenuine state_after state_after_action made_by_event made_while_running made_by_datagram made_by_ruling made_by_proposal propose propose_alone propose_among on_ask accept count_grant on_grant raise count_deny on_deny on_floor on_message tick
-returns-clause-never_made c h = nothing_offered _ (h.genuine.1.1.1.1.1.1.0 refl (omega arith))
+returns-clause-never_made c h = nothing_offered _ (h.genuine.1.1.1.1.1.1.0 refl tt (omega arith))
 
 pub returns-clause-never_made_in_a_stop : goal.returns-clause-never_made_in_a_stop
 unfolding code_at first_words schedule rounds compress hash_after digest_bytes sha1 AreGenuine state_after state_after_action made_by_event made_while_running made_by_datagram made_by_ruling made_by_proposal propose propose_alone propose_among on_ask accept count_grant on_grant raise count_deny on_deny on_floor on_message tick
-returns-clause-never_made_in_a_stop c h = nothing_offered _ (h.genuine.1.1.1.1.1.1.0 refl (omega arith))
+returns-clause-never_made_in_a_stop c h = nothing_offered _ (h.genuine.1.1.1.1.1.1.0 refl tt (omega arith))
+
+pub returns-clause-never_denied : goal.returns-clause-never_denied
+unfolding code_at first_words schedule rounds compress hash_after digest_bytes sha1 AreGenuine state_after state_after_action made_by_event made_while_running made_by_datagram made_by_ruling made_by_proposal propose propose_alone propose_among on_ask accept count_grant on_grant raise count_deny on_deny on_floor on_message tick
+returns-clause-never_denied c h = nothing_offered _ (h.genuine.1.1.1.1.1.1.0 refl tt (omega arith))
+
+pub returns-clause-told_by_nobody : goal.returns-clause-told_by_nobody
+unfolding code_at first_words schedule rounds compress hash_after digest_bytes sha1 AreGenuine state_after state_after_action made_by_event made_while_running made_by_datagram made_by_ruling made_by_proposal propose propose_alone propose_among on_ask accept count_grant on_grant raise count_deny on_deny on_floor on_message tick
+returns-clause-told_by_nobody c = record { starts = λ i envelope at. absurd (no_old i envelope at); genuine = (tt, (tt, (tt, (tt, (tt, (tt, ((λ from vote within. absurd vote), (tt, (tt, tt))))))))) }
+
+pub returns-clause-told_by_nobody_in_a_stop : goal.returns-clause-told_by_nobody_in_a_stop
+unfolding code_at first_words schedule rounds compress hash_after digest_bytes sha1 AreGenuine state_after state_after_action made_by_event made_while_running made_by_datagram made_by_ruling made_by_proposal propose propose_alone propose_among on_ask accept count_grant on_grant raise count_deny on_deny on_floor on_message tick
+returns-clause-told_by_nobody_in_a_stop c = record { starts = λ i envelope at. absurd (no_old i envelope at); genuine = (tt, (tt, (tt, (tt, (tt, (tt, ((λ from vote within. absurd vote), tt))))))) }
 
 pub returns-clause-from_another : goal.returns-clause-from_another
 unfolding code_at first_words schedule rounds compress hash_after digest_bytes sha1 AreGenuine state_after state_after_action made_by_event made_while_running made_by_datagram made_by_ruling made_by_proposal propose propose_alone propose_among on_ask accept count_grant on_grant raise count_deny on_deny on_floor on_message tick
-returns-clause-from_another c = record { starts = λ i envelope at. absurd (no_old i envelope at); genuine = (tt, (tt, (tt, (tt, (tt, (tt, ((λ from within. let senders : 2 ≡ 3 = from in absurd (omega (arith, senders))), tt))))))) }
+returns-clause-from_another c = record { starts = λ i envelope at. absurd (no_old i envelope at); genuine = (tt, (tt, (tt, (tt, (tt, (tt, ((λ from vote within. let senders : 2 ≡ 3 = from in absurd (omega (arith, senders))), tt))))))) }
 
 pub returns-clause-unknown_number : goal.returns-clause-unknown_number
 unfolding code_at first_words schedule rounds compress hash_after digest_bytes sha1 AreGenuine state_after state_after_action made_by_event made_while_running made_by_datagram made_by_ruling made_by_proposal propose propose_alone propose_among on_ask accept count_grant on_grant raise count_deny on_deny on_floor on_message tick
-returns-clause-unknown_number c = record { starts = λ i envelope at. absurd (no_old i envelope at); genuine = (tt, (tt, (tt, (tt, (tt, (tt, ((λ from within. let low : 2 < 2 = within in absurd (omega (arith, low))), tt))))))) }
+returns-clause-unknown_number c = record { starts = λ i envelope at. absurd (no_old i envelope at); genuine = (tt, (tt, (tt, (tt, (tt, (tt, ((λ from vote within. let low : 2 < 2 = within in absurd (omega (arith, low))), tt))))))) }
 
 pub returns-clause-to_nobody : goal.returns-clause-to_nobody
 unfolding code_at first_words schedule rounds compress hash_after digest_bytes sha1 AreGenuine state_after state_after_action made_by_event made_while_running made_by_datagram made_by_ruling made_by_proposal propose propose_alone propose_among on_ask accept count_grant on_grant raise count_deny on_deny on_floor on_message tick
