@@ -78,6 +78,8 @@ class Counters(Case):
 
     def test_lines_of_a_minute_and_of_a_flood(self):
         lines = "unopened form=1 tag=12 late=3\nolder member=2 boot=4711\ndiffers member=3\nroster rows=3 enrolled=0 retired=1 book=4a7512ffe7c9b201\n"
+        lines += "fell member=2 name=0123456789abcdef0123456789abcdef\n"
+        lines += "reload refused line=7 BadSecret\nreload refused NoTokens\n"
         lines += "refused %s NO - BADLINE\nbadline more=4\n%send received=9 replied=6\n" % (FROM, accepted("ann", 7))
         self.assertEqual(self.counters(*self.logs(lines)), [8, 0])
         self.refused("Lines", *self.logs(lines.replace("more=4", "more=5")))
