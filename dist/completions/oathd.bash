@@ -22,7 +22,7 @@ _oathd() {
         init) options='--node --cluster --skew --drift --moment --lost --anew --floors --since --begins' files=yes ;;
         serve)
             options='--node --cluster --members --key --look-ahead --skew --range --drift --clients --plain-lines'
-            options+=' --turns --forever --log' files=yes ;;
+            options+=' --turns --forever --log --reload' files=yes ;;
         export | audit | migrate | gates | unlock | roster) options='--node --cluster' files=yes ;;
         floors) options='--node --members --cluster' files=yes ;;
         level) options='--node --floors --cluster' files=yes ;;

@@ -1,13 +1,15 @@
 //! What a port that joins datagrams tells a log of the datagrams that it passed over: what the port below tells.
 
 use crate::port::BundlePort;
-use node_log::{Gatekeeper, Older, PLACES};
+use node_log::{Fell, Gatekeeper, Older, PLACES};
 use sealed_port::Unopened;
 
 impl<P: Gatekeeper + Drop> Gatekeeper for BundlePort<P> {
     ghost unopened = { λ bundles. P.unopened bundles.port };
 
     ghost older = { λ bundles. P.older bundles.port };
+
+    ghost fell = { λ bundles. P.fell bundles.port };
 
     ghost differing = { λ bundles. P.differing bundles.port };
 
@@ -17,6 +19,10 @@ impl<P: Gatekeeper + Drop> Gatekeeper for BundlePort<P> {
 
     fn take_older(&mut self) -> Option<Older> {
         self.port.take_older()
+    }
+
+    fn take_fell(&mut self) -> Option<Fell> {
+        self.port.take_fell()
     }
 
     fn take_differing(&mut self) -> [bool; PLACES] {

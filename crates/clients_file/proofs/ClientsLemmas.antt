@@ -13,16 +13,19 @@ use Rattle.std.proofs.lemmas.Slice.Eq.{bytes_eq-Decides}
 use Rattle.std.proofs.NetLemmas.Ipv4.{read_ipv4_sound}
 use Rattle.field_text.specs.Number.{number_of}
 use Rattle.token_file.specs.Fields.{fields_of, lines_of}
+use Rattle.sealed_wire.specs.declared.right.Right.{Right}
+use Rattle.sealed_wire.specs.declared.right.Right.TheVariants as right
 use Rattle.clients_file.specs.declared.clients.ClientEntry.{ClientEntry}
+use Rattle.clients_file.specs.declared.clients.OperatorEntry.{OperatorEntry}
 use Rattle.clients_file.specs.declared.fault.LineFault.{LineFault}
 use Rattle.clients_file.specs.declared.fault.LineFault.TheVariants.{BadAddress, BadNumber, Twice, SameKey, NotLoopback, TooMany, NoClient, TooLong}
 use Rattle.clients_file.specs.declared.word.Word.{Word}
-use Rattle.clients_file.specs.declared.word.Word.TheVariants.{Client, Plain, Ahead, Failures}
+use Rattle.clients_file.specs.declared.word.Word.TheVariants.{Client, Operator, Reader, Plain, Ahead, Failures}
 use Rattle.clients_file.specs.Address.{is_loopback, loopback_of, number_of_octets, octets_of}
-use Rattle.clients_file.specs.Clients.{AreClients, AreTwo, IsLoopback}
+use Rattle.clients_file.specs.Clients.{AreClients, AreTwo, AreTwoOperators, IsLoopback, IsNoOperator, entry_of}
 use Rattle.clients_file.specs.ClientsFile.{ClientsRecord, after_lines, at_line, clients_of, finished, outcome_of}
 use Rattle.clients_file.specs.Fields.{◌>>=◌, key_of, number_within, one_field, two_fields, word_of}
-use Rattle.clients_file.specs.Said.{Said, after_fields, after_named, after_word, ahead_of, block_of, client_of, failures_of, has_block, has_number, if_room, is_remark, new_key, new_number, nothing_said, plain_of, unless_given}
+use Rattle.clients_file.specs.Said.{Said, after_fields, after_named, after_operator, after_word, ahead_of, block_of, client_of, failures_of, has_block, has_number, has_operator, if_room, is_remark, new_key, new_number, nothing_said, operator_with, operators_have, plain_of, unless_given}
 use Rattle.clients_file.proofs.AddressLemmas.{left_over}
 
 -- ---- steps that may fail
@@ -55,41 +58,73 @@ none_at p xs k d within none = by (p (get_or xs k d)) refl
 same_ok : {A E : Type 0} (a b : A) → ◌≡◌ {A = Result A E} (Ok a) (Ok b) → a ≡ b
 same_ok a b e = cc
 
-number_fits : (clients : List ClientEntry) (text : List ℕ) (end : ℕ) → new_number clients text ≡ Ok end → has_number end clients ≡ false
-number_fits clients text end e =
-    let s = steps (number_within 0 65535 (number_of text)) (λ number. if has_number number clients then Err Twice else Ok number) end e in
-    by s.middle (has_number s.middle clients) refl s.after
-  where
-    by : (number : ℕ) (known : Bool) → has_number number clients ≡ known → (if known then Err Twice else Ok number) ≡ Ok end
-        → has_number end clients ≡ false
-    by number true is e = absurd cc
-    by number false is e = ap (λ n. has_number n clients) (sym (same_ok number end e)) ∙ is
+-- the number of a line is new
+record IsNewNumber (clients : List ClientEntry) (operators : List OperatorEntry) (number : ℕ) : Type 0 where
+  to_clients : has_number number clients ≡ false
+  to_operators : has_operator number operators ≡ false
 
-key_fits : (clients : List ClientEntry) (text end : List ℕ) → new_key clients text ≡ Ok end → has_block (block_of end) clients ≡ false
-key_fits clients text end e =
-    let s = steps (key_of text) (λ key. if has_block (block_of key) clients then Err SameKey else Ok key) end e in
-    by s.middle (has_block (block_of s.middle) clients) refl s.after
-  where
-    by : (key : List ℕ) (known : Bool) → has_block (block_of key) clients ≡ known → (if known then Err SameKey else Ok key) ≡ Ok end
-        → has_block (block_of end) clients ≡ false
-    by key true is e = absurd cc
-    by key false is e = ap (λ k. has_block (block_of k) clients) (sym (same_ok key end e)) ∙ is
+-- the key of a line is new
+record IsNewKey (clients : List ClientEntry) (operators : List OperatorEntry) (key : List ℕ) : Type 0 where
+  to_clients : has_block (block_of key) clients ≡ false
+  to_operators : operators_have (block_of key) operators ≡ false
 
-are_two : (clients : List ClientEntry) (client : ClientEntry) → has_number client.number clients ≡ false
-    → has_block (block_of client.key) clients ≡ false → (k : ℕ) (d : ClientEntry) → k < length clients → AreTwo (get_or clients k d) client
-are_two clients client number key k d within =
+number_fits : (clients : List ClientEntry) (operators : List OperatorEntry) (text : List ℕ) (end : ℕ) → new_number clients operators text ≡ Ok end
+    → IsNewNumber clients operators end
+number_fits clients operators text end e =
+    let s = steps (number_within 0 65535 (number_of text))
+    (λ number. if has_number number clients then Err Twice else (if has_operator number operators then Err Twice else Ok number)) end e in
+    by s.middle (has_number s.middle clients) (has_operator s.middle operators) refl refl s.after
+  where
+    by : (number : ℕ) (known used : Bool) → has_number number clients ≡ known → has_operator number operators ≡ used
+        → (if known then Err Twice else (if used then Err Twice else Ok number)) ≡ Ok end → IsNewNumber clients operators end
+    by number true used is has e = absurd cc
+    by number false true is has e = absurd cc
+    by number false false is has e = subst (IsNewNumber clients operators) (same_ok number end e) (record { to_clients = is; to_operators = has })
+
+key_fits : (clients : List ClientEntry) (operators : List OperatorEntry) (text end : List ℕ) → new_key clients operators text ≡ Ok end
+    → IsNewKey clients operators end
+key_fits clients operators text end e =
+    let s = steps (key_of text)
+    (λ key. if has_block (block_of key) clients then Err SameKey else (if operators_have (block_of key) operators then Err SameKey else Ok key)) end e in
+    by s.middle (has_block (block_of s.middle) clients) (operators_have (block_of s.middle) operators) refl refl s.after
+  where
+    by : (key : List ℕ) (known used : Bool) → has_block (block_of key) clients ≡ known → operators_have (block_of key) operators ≡ used
+        → (if known then Err SameKey else (if used then Err SameKey else Ok key)) ≡ Ok end → IsNewKey clients operators end
+    by key true used is has e = absurd cc
+    by key false true is has e = absurd cc
+    by key false false is has e = subst (IsNewKey clients operators) (same_ok key end e) (record { to_clients = is; to_operators = has })
+
+record IsNext (clients : List ClientEntry) (operators : List OperatorEntry) (client : ClientEntry) : Type 0 where
+  room : length clients + length operators < 64
+  number : IsNewNumber clients operators client.number
+  key : IsNewKey clients operators client.key
+
+-- each client before a line is another one
+client_before : (clients : List ClientEntry) (operators : List OperatorEntry) (client : ClientEntry) → IsNext clients operators client
+    → (k : ℕ) (d : ClientEntry) → k < length clients → AreTwo (get_or clients k d) client
+client_before clients operators client next k d within =
     let other = get_or clients k d in
     record {
       numbers = λ same. true≢false (sym (eq-eqb other.number client.number same)
-          ∙ none_at (λ c. c.number == client.number) clients k d within number);
+          ∙ none_at (λ c. c.number == client.number) clients k d within next.number.to_clients);
       keys = λ same. true≢false (sym ((bytes_eq-Decides (block_of other.key) (block_of client.key)).1 same)
-          ∙ none_at (λ c. bytes_eq (block_of c.key) (block_of client.key)) clients k d within key);
+          ∙ none_at (λ c. bytes_eq (block_of c.key) (block_of client.key)) clients k d within next.key.to_clients);
     }
 
-record IsNext (clients : List ClientEntry) (client : ClientEntry) : Type 0 where
-  room : length clients < 64
-  number : has_number client.number clients ≡ false
-  key : has_block (block_of client.key) clients ≡ false
+-- each operator before a line is another one
+operator_before : (clients : List ClientEntry) (operators : List OperatorEntry) (client : ClientEntry) → IsNext clients operators client
+    → (k : ℕ) (d : OperatorEntry) → k < length operators → AreTwo (entry_of (get_or operators k d)) client
+operator_before clients operators client next k d within =
+    let other = get_or operators k d in
+    record {
+      numbers = λ same. true≢false (sym (eq-eqb other.number client.number same)
+          ∙ none_at (λ o. o.number == client.number) operators k d within next.number.to_operators);
+      keys = λ same. true≢false (sym ((bytes_eq-Decides (block_of other.key) (block_of client.key)).1 same)
+          ∙ none_at (λ o. bytes_eq (block_of o.key) (block_of client.key)) operators k d within next.key.to_operators);
+    }
+
+other_way : (client other : ClientEntry) → AreTwo client other → AreTwo other client
+other_way client other two = record { numbers = λ same. two.numbers (sym same); keys = λ same. two.keys (sym same) }
 
 has_room : {A : Type 0} (most len : ℕ) (value end : A) → if_room most len value ≡ Ok end → (len < most) × (value ≡ end)
 has_room most len value end e = by (nat_le most len) refl e
@@ -98,17 +133,19 @@ has_room most len value end e = by (nat_le most len) refl e
     by true is e = absurd cc
     by false is e = (lt_from_test most len is, same_ok value end e)
 
-client_fits : (clients : List ClientEntry) (fields : List (List ℕ)) (end : ClientEntry) → client_of clients fields ≡ Ok end → IsNext clients end
-client_fits clients fields end e =
-    let texts = steps (two_fields fields) (λ texts. new_number clients texts.0 >>= λ number. new_key clients texts.1 >>= λ key. if_room 64 (length clients) (record { number = number; key = key })) end e in
-    let number = steps (new_number clients texts.middle.0) (λ number. new_key clients texts.middle.1 >>= λ key. if_room 64 (length clients) (record { number = number; key = key })) end texts.after in
-    let key = steps (new_key clients texts.middle.1) (λ key. if_room 64 (length clients) (record { number = number.middle; key = key })) end number.after in
+client_fits : (clients : List ClientEntry) (operators : List OperatorEntry) (fields : List (List ℕ)) (end : ClientEntry)
+    → client_of clients operators fields ≡ Ok end → IsNext clients operators end
+client_fits clients operators fields end e =
+    let len = length clients + length operators in
+    let texts = steps (two_fields fields) (λ texts. new_number clients operators texts.0 >>= λ number. new_key clients operators texts.1 >>= λ key. if_room 64 len (record { number = number; key = key })) end e in
+    let number = steps (new_number clients operators texts.middle.0) (λ number. new_key clients operators texts.middle.1 >>= λ key. if_room 64 len (record { number = number; key = key })) end texts.after in
+    let key = steps (new_key clients operators texts.middle.1) (λ key. if_room 64 len (record { number = number.middle; key = key })) end number.after in
     let made : ClientEntry = record { number = number.middle; key = key.middle } in
-    let room = has_room 64 (length clients) made end key.after in
-    subst (IsNext clients) room.1 (record {
+    let room = has_room 64 len made end key.after in
+    subst (IsNext clients operators) room.1 (record {
       room = room.0;
-      number = number_fits clients texts.middle.0 number.middle number.before;
-      key = key_fits clients texts.middle.1 key.middle key.before;
+      number = number_fits clients operators texts.middle.0 number.middle number.before;
+      key = key_fits clients operators texts.middle.1 key.middle key.before;
     })
 
 -- ---- a plain address
@@ -188,26 +225,51 @@ failures_fit before fields end e =
 
 -- what lines can give
 record CanBeSaid (said : Said) : Type 0 where
-  few : length said.clients ≤ 64
+  few : length said.clients + length said.operators ≤ 64
   apart : AllPairs AreTwo said.clients
+  operators_apart : AllPairs AreTwoOperators said.operators
+  between : All (IsNoOperator said.operators) said.clients
   few_plain : length said.plain ≤ 16
   plain : All IsLoopback said.plain
   ahead : IfSome said.ahead (λ seconds. (1 ≤ seconds) × (seconds ≤ 60))
   failures : IfSome said.failures (λ failures. (1 ≤ failures) × (failures ≤ 65535))
 
-word_keeps : (said : Said) (word : Word) (fields : List (List ℕ)) (end : Said) → CanBeSaid said → after_word said word fields ≡ Ok end → CanBeSaid end
-word_keeps said Client fields end can e =
-    let s = steps (client_of said.clients fields) (λ client. Ok (record said { clients = said.clients ++ client ∷ [] })) end e in
-    let next = client_fits said.clients fields s.middle s.before in
-    let same : record said { clients = said.clients ++ s.middle ∷ [] } ≡ end = same_ok _ end s.after in
+operator_keeps : (said : Said) (right : Right) (fields : List (List ℕ)) (end : Said) → CanBeSaid said → after_operator said right fields ≡ Ok end → CanBeSaid end
+operator_keeps said right fields end can e =
+    let s = steps (client_of said.clients said.operators fields) (λ entry. Ok (record said { operators = said.operators ++ operator_with right entry ∷ [] })) end e in
+    let next = client_fits said.clients said.operators fields s.middle s.before in
+    let new : OperatorEntry = operator_with right s.middle in
+    let same : record said { operators = said.operators ++ new ∷ [] } ≡ end = same_ok _ end s.after in
     subst CanBeSaid same (record {
-      few = let room = next.room in omega (arith, length-append said.clients (s.middle ∷ []));
-      apart = all_pairs_push AreTwo said.clients s.middle can.apart (are_two said.clients s.middle next.number next.key);
+      few = let room = next.room in omega (arith, length-append said.operators (new ∷ []));
+      apart = can.apart;
+      operators_apart = all_pairs_push AreTwoOperators said.operators new can.operators_apart (operator_before said.clients said.operators s.middle next);
+      between = λ k d within. All-push (λ operator. AreTwo (get_or said.clients k d) (entry_of operator)) said.operators new (can.between k d within)
+          (client_before said.clients said.operators s.middle next k d within);
       few_plain = can.few_plain;
       plain = can.plain;
       ahead = can.ahead;
       failures = can.failures;
     })
+
+word_keeps : (said : Said) (word : Word) (fields : List (List ℕ)) (end : Said) → CanBeSaid said → after_word said word fields ≡ Ok end → CanBeSaid end
+word_keeps said Client fields end can e =
+    let s = steps (client_of said.clients said.operators fields) (λ client. Ok (record said { clients = said.clients ++ client ∷ [] })) end e in
+    let next = client_fits said.clients said.operators fields s.middle s.before in
+    let same : record said { clients = said.clients ++ s.middle ∷ [] } ≡ end = same_ok _ end s.after in
+    subst CanBeSaid same (record {
+      few = let room = next.room in omega (arith, length-append said.clients (s.middle ∷ []));
+      apart = all_pairs_push AreTwo said.clients s.middle can.apart (client_before said.clients said.operators s.middle next);
+      operators_apart = can.operators_apart;
+      between = All-push (IsNoOperator said.operators) said.clients s.middle can.between
+          (λ k d within. other_way (entry_of (get_or said.operators k d)) s.middle (operator_before said.clients said.operators s.middle next k d within));
+      few_plain = can.few_plain;
+      plain = can.plain;
+      ahead = can.ahead;
+      failures = can.failures;
+    })
+word_keeps said Operator fields end can e = operator_keeps said right.Operator fields end can e
+word_keeps said Reader fields end can e = operator_keeps said right.Reader fields end can e
 word_keeps said Plain fields end can e =
     let s = steps (plain_of said.plain fields) (λ address. Ok (record said { plain = said.plain ++ address ∷ [] })) end e in
     let next = plain_fits said.plain fields s.middle s.before in
@@ -215,6 +277,8 @@ word_keeps said Plain fields end can e =
     subst CanBeSaid same (record {
       few = can.few;
       apart = can.apart;
+      operators_apart = can.operators_apart;
+      between = can.between;
       few_plain = let room = next.0 in omega (arith, length-append said.plain (s.middle ∷ []));
       plain = All-push IsLoopback said.plain s.middle can.plain next.1;
       ahead = can.ahead;
@@ -226,6 +290,8 @@ word_keeps said Ahead fields end can e =
     subst CanBeSaid same (record {
       few = can.few;
       apart = can.apart;
+      operators_apart = can.operators_apart;
+      between = can.between;
       few_plain = can.few_plain;
       plain = can.plain;
       ahead = ahead_fits said.ahead fields s.middle s.before;
@@ -237,6 +303,8 @@ word_keeps said Failures fields end can e =
     subst CanBeSaid same (record {
       few = can.few;
       apart = can.apart;
+      operators_apart = can.operators_apart;
+      between = can.between;
       few_plain = can.few_plain;
       plain = can.plain;
       ahead = can.ahead;
@@ -270,6 +338,8 @@ nothing_keeps : CanBeSaid nothing_said
 nothing_keeps = record {
   few = omega arith;
   apart = λ i j d before within. absurd (omega (arith, within));
+  operators_apart = λ i j d before within. absurd (omega (arith, within));
+  between = λ k d within. absurd (omega (arith, within));
   few_plain = omega arith;
   plain = λ k d within. absurd (omega (arith, within));
   ahead = tt;
@@ -289,7 +359,7 @@ finished_fits : (said : Said) (end : ClientsRecord) → CanBeSaid said → finis
 finished_fits said end can e = by (length said.clients == 0 && length said.plain == 0) refl e
   where
     made : ClientsRecord
-    made = record { clients = said.clients; plain = said.plain; ahead = unwrap_or said.ahead 2; failures = said.failures }
+    made = record { clients = said.clients; operators = said.operators; plain = said.plain; ahead = unwrap_or said.ahead 2; failures = said.failures }
 
     by : (none : Bool) → (length said.clients == 0 && length said.plain == 0) ≡ none → (if none then Err NoClient else Ok made) ≡ Ok end
         → AreClients end
@@ -300,6 +370,8 @@ finished_fits said end can e = by (length said.clients == 0 && length said.plain
           some = one_of_two (length said.clients) (length said.plain) is;
           few = can.few;
           apart = can.apart;
+          operators_apart = can.operators_apart;
+          between = can.between;
           few_plain = can.few_plain;
           plain = can.plain;
           least_ahead = ahead.0;

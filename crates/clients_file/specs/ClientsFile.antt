@@ -3,6 +3,7 @@ use Rattle.std.specs.Prelude.{ℕ, ◌+◌, ◌==◌, ◌&&◌, nat_le, Bool, tr
 use Rattle.token_file.specs.Fields.{fields_of, lines_of}
 use Rattle.clients_file.specs.declared.clients.ClientEntry.{ClientEntry}
 use Rattle.clients_file.specs.declared.clients.Clients.{Clients}
+use Rattle.clients_file.specs.declared.clients.OperatorEntry.{OperatorEntry}
 use Rattle.clients_file.specs.declared.fault.LineFault.{LineFault}
 use Rattle.clients_file.specs.declared.fault.LineFault.TheVariants.{NoClient, TooLong, Memory}
 use Rattle.clients_file.specs.Fields.{◌>>=◌}
@@ -11,6 +12,7 @@ use Rattle.clients_file.specs.Said.{Said, after_fields, nothing_said}
 -- the content of a whole file
 pub record ClientsRecord : Type 0 where
   pub clients : List ClientEntry
+  pub operators : List OperatorEntry
   pub plain : List ℕ
   pub ahead : ℕ
   pub failures : Option ℕ
@@ -20,6 +22,7 @@ abbrev pub clients_value : Clients → ClientsRecord
 clients_value clients =
     record {
       clients = clients.clients.items;
+      operators = clients.operators.items;
       plain = clients.plain.items;
       ahead = clients.ahead;
       failures = clients.failures;
@@ -31,6 +34,7 @@ finished said =
     if length said.clients == 0 && length said.plain == 0 then Err NoClient
     else Ok (record {
       clients = said.clients;
+      operators = said.operators;
       plain = said.plain;
       ahead = unwrap_or said.ahead 2;
       failures = said.failures;

@@ -9,7 +9,7 @@ use Rattle.sealed_wire.specs.Key.{key_refusal_of}
 use Rattle.clients_file.specs.declared.fault.LineFault.{LineFault}
 use Rattle.clients_file.specs.declared.fault.LineFault.TheVariants.{MissingField, SurplusField, BadNumber, BadKey}
 use Rattle.clients_file.specs.declared.word.Word.{Word}
-use Rattle.clients_file.specs.declared.word.Word.TheVariants.{Client, Plain, Ahead, Failures}
+use Rattle.clients_file.specs.declared.word.Word.TheVariants.{Client, Operator, Reader, Plain, Ahead, Failures}
 
 -- the result of the next step, or the first fault
 infixl 10 ◌>>=◌
@@ -21,6 +21,8 @@ Err fault >>= next = Err fault
 abbrev pub word_of : List ℕ → Option Word
 word_of text =
     if bytes_eq text (codes "client") then Some Client
+    else if bytes_eq text (codes "operator") then Some Operator
+    else if bytes_eq text (codes "reader") then Some Reader
     else if bytes_eq text (codes "plain") then Some Plain
     else if bytes_eq text (codes "ahead") then Some Ahead
     else if bytes_eq text (codes "failures") then Some Failures

@@ -25,13 +25,13 @@ pub enum LineFault {
     /// The number is not in decimal digits, or is not in the word's range.
     #[error("BadNumber")]
     BadNumber,
-    /// An earlier line has the same client number, or is an earlier `ahead` or `failures`.
+    /// An earlier line has the same number of a client or operator, or is an earlier `ahead` or `failures`.
     #[error("Twice")]
     Twice,
     /// The key is not 16 to 64 bytes in hexadecimal.
     #[error("BadKey")]
     BadKey,
-    /// An earlier client has the same key: the two clients could answer for each other.
+    /// An earlier client or operator has the same key: the two could answer for each other.
     #[error("SameKey")]
     SameKey,
     /// The address is not an IPv4 address.
@@ -40,7 +40,7 @@ pub enum LineFault {
     /// The address is not in 127.0.0.0/8.
     #[error("NotLoopback")]
     NotLoopback,
-    /// The file has 64 clients or 16 plain addresses before the line.
+    /// The file has 64 clients and operators or 16 plain addresses before the line.
     #[error("TooMany")]
     TooMany,
     /// No line names a client or a plain address.

@@ -2,17 +2,19 @@ ghost use Rattle.std.specs.Prelude.{◌≡◌, ◌++◌, ◌∷◌, [], List, �
 ghost use Rattle.std.specs.List.{range_with_len};
 ghost use Rattle.field_text.specs.Number.{number_of};
 ghost use Rattle.sealed_wire.specs.Key.{IsClientKey, tag_of};
+ghost use Rattle.sealed_wire.specs.declared.right.Right.TheVariants.{Operator, Reader};
 ghost use Rattle.clients_file.specs.Address.{is_loopback, loopback_of, octets_of};
 ghost use Rattle.clients_file.specs.Clients.{AreClients, AreTwo, IsLoopback};
 ghost use Rattle.clients_file.specs.ClientsFile.{ClientsRecord, clients_of, is_memory, outcome_of};
-ghost use Rattle.clients_file.specs.Examples.{after_each, after_text, client_at, client_line, faults, key_at, key_text, local_at, small_clients, small_file, text_of, whole_clients, whole_file, with_ahead, with_clients, with_failures, with_plain, zeros};
+ghost use Rattle.clients_file.specs.Examples.{after_each, after_text, client_at, client_line, faults, key_at, key_text, local_at, operator_at, operator_line, operators_clients, operators_file, small_clients, small_file, text_of, whole_clients, whole_file, with_ahead, with_clients, with_failures, with_operators, with_plain, zeros};
 ghost use Rattle.clients_file.specs.Fields.{key_of, number_within, word_of};
-ghost use Rattle.clients_file.specs.Said.{block_of, has_block, has_number, nothing_said};
+ghost use Rattle.clients_file.specs.Said.{block_of, has_block, has_number, has_operator, nothing_said, operators_have};
 ghost use Rattle.clients_file.specs.declared.fault.LineFault.{LineFault};
 ghost use Rattle.clients_file.specs.declared.word.Word.{Word};
 
-/// Apart: a clients file that is read gives no two clients the same number or the same key. All its plain addresses are
-/// in 127.0.0.0/8, and all its counts are in their ranges.
+/// Apart: a clients file that is read gives no two of its clients and operators the same number or the same key.
+///
+/// All its plain addresses are in 127.0.0.0/8, and all its counts are in their ranges.
 pub fn files_have_clients()
     ensures { (text : List ℕ) (clients : ClientsRecord) → clients_of text ≡ Ok clients → AreClients clients }
 {}
@@ -28,7 +30,9 @@ pub fn same_blocks_have_same_tags()
 pub fn fields_are_worked()
     ensures words { map word_of (codes "client" ∷ codes "plain" ∷ codes "ahead" ∷ codes "failures" ∷ [])
         ≡ Some Word.Client ∷ Some Word.Plain ∷ Some Word.Ahead ∷ Some Word.Failures ∷ [] }
-    ensures no_words { map word_of (codes "clients" ∷ codes "Client" ∷ codes "plai" ∷ codes "operator" ∷ [] ∷ [])
+    ensures words_of_operators { map word_of (codes "operator" ∷ codes "reader" ∷ [])
+        ≡ Some Word.Operator ∷ Some Word.Reader ∷ [] }
+    ensures no_words { map word_of (codes "clients" ∷ codes "Client" ∷ codes "plai" ∷ codes "operators" ∷ [] ∷ [])
         ≡ replicate 5 None }
     ensures numbers { map (λ text. number_within 1 60 (number_of text)) (codes "1" ∷ codes "060" ∷ codes "0"
         ∷ codes "61" ∷ codes "-1" ∷ [] ∷ []) ≡ Ok 1 ∷ Ok 60 ∷ replicate 4 (Err LineFault.BadNumber) }
@@ -48,6 +52,11 @@ pub fn fields_are_worked()
         (key_at 1 ∷ key_at 2 ∷ (key_at 2 ++ 0 ∷ []) ∷ key_at 3 ∷ (key_at 2 ++ 1 ∷ []) ∷ [])
         ≡ true ∷ true ∷ true ∷ false ∷ false ∷ [] }
     ensures used { map (λ number. has_number number (client_at 1 ∷ client_at 2 ∷ [])) (1 ∷ 2 ∷ 3 ∷ [])
+        ≡ true ∷ true ∷ false ∷ [] }
+    ensures used_by_operators { map (λ number. has_operator number (operator_at Operator 1 ∷ operator_at Reader 2 ∷ []))
+        (1 ∷ 2 ∷ 3 ∷ []) ≡ true ∷ true ∷ false ∷ [] }
+    ensures blocks_of_operators { map (λ key. operators_have (block_of key)
+        (operator_at Operator 1 ∷ operator_at Reader 2 ∷ [])) (key_at 1 ∷ (key_at 2 ++ 0 ∷ []) ∷ key_at 3 ∷ [])
         ≡ true ∷ true ∷ false ∷ [] }
 {}
 
@@ -74,6 +83,27 @@ pub fn lines_are_worked()
     ensures too_many_clients { after_each (with_clients (range_with_len 0 64)) (client_line (codes "64") (codes "40")
         ∷ client_line (codes "64") (codes "3f") ∷ codes "client 63 x" ∷ [])
         ≡ Err LineFault.TooMany ∷ Err LineFault.SameKey ∷ Err LineFault.Twice ∷ [] }
+    ensures operator { after_text (with_operators (7 ∷ []) (8 ∷ []))
+        (operator_line (codes "operator") (codes "9") (codes "09")) ≡ Ok (with_operators (7 ∷ []) (8 ∷ 9 ∷ [])) }
+    ensures reader { after_text (with_clients (7 ∷ [])) (operator_line (codes "reader") (codes "9") (codes "09"))
+        ≡ Ok (record (with_clients (7 ∷ [])) { operators = operator_at Reader 9 ∷ [] }) }
+    ensures client_after_operators { after_text (with_operators (7 ∷ []) (8 ∷ []))
+        (client_line (codes "9") (codes "09")) ≡ Ok (with_operators (7 ∷ 9 ∷ []) (8 ∷ [])) }
+    ensures numbers_of_operators { after_each (with_operators (7 ∷ []) (8 ∷ [])) (codes "operator 7 x"
+        ∷ codes "operator 8 x" ∷ codes "reader 8 x" ∷ codes "client 8 x" ∷ []) ≡ replicate 4 (Err LineFault.Twice) }
+    ensures keys_of_operators { after_each (with_operators (7 ∷ []) (8 ∷ []))
+        (operator_line (codes "operator") (codes "9") (codes "07")
+        ∷ operator_line (codes "reader") (codes "9") (codes "0800") ∷ client_line (codes "9") (codes "08") ∷ [])
+        ≡ replicate 3 (Err LineFault.SameKey) }
+    ensures last_operator { after_text (with_operators (range_with_len 0 62) (62 ∷ []))
+        (operator_line (codes "operator") (codes "63") (codes "3f"))
+        ≡ Ok (with_operators (range_with_len 0 62) (62 ∷ 63 ∷ [])) }
+    ensures too_many_operators { after_each (with_operators (range_with_len 0 62) (62 ∷ 63 ∷ []))
+        (operator_line (codes "operator") (codes "64") (codes "40") ∷ client_line (codes "64") (codes "40") ∷ [])
+        ≡ replicate 2 (Err LineFault.TooMany) }
+    ensures bad_operators { after_each nothing_said (codes "operator 65536 x" ∷ codes "reader 9 00" ∷ codes "operator 9"
+        ∷ codes "reader 9 x #" ∷ []) ≡ Err LineFault.BadNumber ∷ Err LineFault.BadKey ∷ Err LineFault.MissingField
+        ∷ Err LineFault.SurplusField ∷ [] }
     ensures plain { after_each (with_plain (1 ∷ [])) (codes "plain 127.0.0.2" ∷ codes "plain 127.0.0.1" ∷ [])
         ≡ Ok (with_plain (1 ∷ 2 ∷ [])) ∷ Ok (with_plain (1 ∷ 1 ∷ [])) ∷ [] }
     ensures bad_addresses { after_each nothing_said (codes "plain localhost" ∷ codes "plain 127.0.0.1:7101"
@@ -93,7 +123,7 @@ pub fn lines_are_worked()
     ensures bad_failures { after_each (with_failures 2) (codes "failures 0" ∷ codes "failures 65536"
         ∷ codes "failures x" ∷ []) ≡ replicate 3 (Err LineFault.BadNumber) }
     ensures twice_failures { after_text (with_failures 2) (codes "failures 2") ≡ Err LineFault.Twice }
-    ensures unknown { after_each nothing_said (codes "clients" ∷ codes "operator 900 x" ∷ codes "x #" ∷ [])
+    ensures unknown { after_each nothing_said (codes "clients" ∷ codes "operators 900 x" ∷ codes "x #" ∷ [])
         ≡ replicate 3 (Err LineFault.UnknownWord) }
     ensures missing { after_each (with_ahead 2) (codes "client" ∷ codes "client x" ∷ codes "plain" ∷ codes "ahead"
         ∷ codes "failures" ∷ [])
@@ -107,7 +137,10 @@ pub fn files_are_worked()
     ensures small { clients_of (text_of small_file) ≡ Ok small_clients }
     ensures whole { clients_of (text_of whole_file) ≡ Ok whole_clients }
     ensures no_last_end { clients_of (codes "plain 127.0.0.1" ++ 13 ∷ 10 ∷ codes "ahead 60")
-        ≡ Ok (record { clients = []; plain = local_at 1 ∷ []; ahead = 60; failures = None }) }
+        ≡ Ok (record { clients = []; operators = []; plain = local_at 1 ∷ []; ahead = 60; failures = None }) }
+    ensures with_operators { clients_of (text_of operators_file) ≡ Ok operators_clients }
+    ensures operators_alone { clients_of (text_of (operator_line (codes "reader") (codes "9") (codes "09") ∷ []))
+        ≡ Err (2, LineFault.NoClient) }
     ensures no_client { map clients_of ([] ∷ (10 ∷ []) ∷ codes "ahead 5" ∷ text_of (codes "# client" ∷ []) ∷ [])
         ≡ Err (1, LineFault.NoClient) ∷ Err (2, LineFault.NoClient) ∷ Err (1, LineFault.NoClient)
         ∷ Err (2, LineFault.NoClient) ∷ [] }
@@ -125,7 +158,22 @@ pub fn files_are_worked()
 pub fn clients_can_be_broken()
     ensures clients { AreClients whole_clients }
     ensures nobody { AreClients (record whole_clients { clients = []; plain = [] }) → ⊥ }
+    ensures with_operators { AreClients operators_clients }
     ensures sixty_five { (clients : ClientsRecord) → AreClients clients → length clients.clients ≡ 65 → ⊥ }
+    ensures thirty_three_each { (clients : ClientsRecord) → AreClients clients → length clients.clients ≡ 33 →
+        length clients.operators ≡ 33 → ⊥ }
+    ensures same_operator { AreClients (record small_clients {
+      operators = operator_at Operator 8 ∷ operator_at Reader 9 ∷ record (operator_at Reader 10) { number = 8 } ∷ [];
+    }) → ⊥ }
+    ensures operator_with_the_key { AreClients (record small_clients {
+      operators = operator_at Operator 8 ∷ record (operator_at Reader 9) { key = key_at 8 } ∷ [];
+    }) → ⊥ }
+    ensures operator_and_client { AreClients (record small_clients {
+      operators = operator_at Operator 8 ∷ record (operator_at Reader 9) { number = 7 } ∷ [];
+    }) → ⊥ }
+    ensures operator_with_a_clients_key { AreClients (record whole_clients {
+      operators = operator_at Operator 9 ∷ record (operator_at Reader 10) { key = key_at 8 } ∷ [];
+    }) → ⊥ }
     ensures same_number { AreClients (record whole_clients {
       clients = client_at 7 ∷ client_at 8 ∷ record { number = 7; key = key_at 9 } ∷ [];
     }) → ⊥ }

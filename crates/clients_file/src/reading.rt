@@ -1,4 +1,4 @@
-ghost use Rattle.std.specs.Prelude.{◌≡◌, ◌≤◌, ◌==◌, false, IfErr, IfOk, Ok, Err, length};
+ghost use Rattle.std.specs.Prelude.{◌≡◌, ◌≤◌, ◌+◌, ◌==◌, false, IfErr, IfOk, Ok, Err, length};
 ghost use Rattle.token_file.specs.Fields.{lines_of};
 ghost use Rattle.clients_file.specs.ClientsFile.{after_lines, clients_of, clients_value, is_memory, outcome_of};
 ghost use Rattle.clients_file.specs.Said.{nothing_said};
@@ -52,6 +52,8 @@ fn read_up_to(alloc: Global, limit: usize, text: &[u8]) -> Result<Clients, Clien
     ensures clients { IfOk result (λ clients. outcome_of limit text.now ≡ Ok (clients_value clients)) }
     ensures few { IfOk result (λ clients.
         (length clients.clients.items ≤ 64) × (length clients.plain.items ≤ 16)) }
+    ensures together { IfOk result (λ clients.
+        length clients.clients.items + length clients.operators.items ≤ 64) }
     ensures ahead { IfOk result (λ clients. (1 ≤ clients.ahead) × (clients.ahead ≤ 60)) }
     ensures fault { IfErr result (λ fault. is_memory fault.kind ≡ false →
         outcome_of limit text.now ≡ Err (fault.line, fault.kind)) }
@@ -79,11 +81,14 @@ fn read_up_to(alloc: Global, limit: usize, text: &[u8]) -> Result<Clients, Clien
 /// - Returns the first fault of the first faulty line.
 /// - Returns `NoClient`, with the number of the line after the last LF, if no line names a client or a plain address.
 /// - Returns `TooLong` if the text has more than 65,536 bytes.
-/// - Returns `Memory` if the allocator refuses the memory for a client or an address. It can come at any of them.
+/// - Returns `Memory` if the allocator refuses the memory for a client, an operator or an address. It can come at any
+///   of them.
 pub fn read_clients(alloc: Global, text: &[u8]) -> Result<Clients, ClientsFault>
     ensures clients { IfOk result (λ clients. clients_of text.now ≡ Ok (clients_value clients)) }
     ensures few { IfOk result (λ clients.
         (length clients.clients.items ≤ 64) × (length clients.plain.items ≤ 16)) }
+    ensures together { IfOk result (λ clients.
+        length clients.clients.items + length clients.operators.items ≤ 64) }
     ensures ahead { IfOk result (λ clients. (1 ≤ clients.ahead) × (clients.ahead ≤ 60)) }
     ensures fault { IfErr result (λ fault. is_memory fault.kind ≡ false →
         clients_of text.now ≡ Err (fault.line, fault.kind)) }

@@ -1,25 +1,25 @@
-ghost use Rattle.std.specs.Prelude.{◌≡◌, ◌≤◌, ◌<◌, IfErr, IfOk, OnOk, Ok, Err, false, length};
+ghost use Rattle.std.specs.Prelude.{◌≡◌, ◌≤◌, ◌<◌, ◌+◌, IfErr, IfOk, OnOk, Ok, Err, false, length};
 ghost use Rattle.token_file.specs.Fields.{fields_of};
 ghost use Rattle.clients_file.specs.ClientsFile.{clients_value, finished, is_memory};
-ghost use Rattle.clients_file.specs.Said.{after_fields, after_word, ahead_of, block_of, client_of, failures_of, has_block, has_number, is_remark, new_key, new_number, nothing_said, plain_of};
+ghost use Rattle.clients_file.specs.Said.{after_fields, after_operator, after_word, ahead_of, block_of, client_of, failures_of, has_block, has_number, has_operator, is_remark, new_key, new_number, nothing_said, operators_have, plain_of};
 
 use crate::address::read_loopback;
-use crate::clients::{ClientEntry, Clients};
+use crate::clients::{ClientEntry, Clients, OperatorEntry};
 use crate::fault::LineFault;
 use crate::fields::{key, number_within, one_field, two_fields};
 use crate::word::{Word, is_same, read_word};
-use sealed_wire::ClientKey;
+use sealed_wire::{ClientKey, Right};
 use std::alloc::Global;
 use std::marker::Model;
 use token_file::first_field;
 
-/// The maximum number of clients.
+/// The maximum number of clients and operators.
 const MAX_CLIENTS: usize = 64;
 
 /// The maximum number of plain addresses.
 const MAX_PLAIN: usize = 16;
 
-/// The maximum number of a client.
+/// The maximum number of a client or operator.
 const MAX_NUMBER: u64 = 65_535;
 
 /// The minimum of the seconds ahead.
@@ -44,26 +44,28 @@ const BLOCK_LEN: usize = 64;
 #[derive(Drop)]
 pub(crate) struct Said {
     clients: Vec<ClientEntry>,
+    operators: Vec<OperatorEntry>,
     plain: Vec<u32>,
     ahead: Option<u8>,
     failures: Option<u64>,
 }
 
 impl Model for Said {
-    ghost use Rattle.std.specs.Prelude.{◌≤◌, IfSome, length};
+    ghost use Rattle.std.specs.Prelude.{◌≤◌, ◌+◌, IfSome, length};
     ghost use Rattle.clients_file.specs.Said.{Said};
 
     ghost Value = { Said };
 
     ghost view = { λ said. record {
       clients = said.clients.items;
+      operators = said.operators.items;
       plain = said.plain.items;
       ahead = said.ahead;
       failures = said.failures;
     } };
 
     ghost invariant = { λ said.
-        (length said.clients.items ≤ 64) × (length said.plain.items ≤ 16)
+        (length said.clients.items + length said.operators.items ≤ 64) × (length said.plain.items ≤ 16)
         × IfSome said.ahead (λ seconds. (1 ≤ seconds) × (seconds ≤ 60)) };
 }
 
@@ -74,6 +76,7 @@ impl Said {
     {
         Said {
             clients: Vec::new(alloc),
+            operators: Vec::new(alloc),
             plain: Vec::new(alloc),
             ahead: None,
             failures: None,
@@ -106,11 +109,13 @@ impl Said {
     {
         match word {
             Word::Client => {
-                let client = next_client(&self.clients, rest)?;
+                let client = next_client(&self.clients, &self.operators, rest)?;
                 if self.clients.push(client).is_err() {
                     return Err(LineFault::Memory);
                 }
             }
+            Word::Operator => self.take_operator(Right::Operator, rest)?,
+            Word::Reader => self.take_operator(Right::Reader, rest)?,
             Word::Plain => {
                 let address = next_plain(&self.plain, rest)?;
                 if self.plain.push(address).is_err() {
@@ -123,22 +128,40 @@ impl Said {
         Ok(())
     }
 
+    /// Takes the fields of an operator with a right.
+    fn take_operator(&mut self, right: Right, rest: &[u8]) -> Result<(), LineFault>
+        ensures ok { OnOk result (after_operator self.old right (fields_of rest.now) ≡ Ok self.new) }
+        ensures fault { IfErr result (λ fault. is_memory fault ≡ false →
+            after_operator self.old right (fields_of rest.now) ≡ Err fault) }
+    {
+        let ClientEntry { number, key } = next_client(&self.clients, &self.operators, rest)?;
+        let operator = OperatorEntry { number, key, right };
+        if self.operators.push(operator).is_err() {
+            return Err(LineFault::Memory);
+        }
+        Ok(())
+    }
+
     /// Returns the clients, after the last line.
     pub(crate) fn finish(self) -> Result<Clients, LineFault>
         ensures ok { IfOk result (λ clients. finished self ≡ Ok (clients_value clients)) }
         ensures few { IfOk result (λ clients.
             (length clients.clients.items ≤ 64) × (length clients.plain.items ≤ 16)) }
+        ensures together { IfOk result (λ clients.
+            length clients.clients.items + length clients.operators.items ≤ 64) }
         ensures ahead { IfOk result (λ clients. (1 ≤ clients.ahead) × (clients.ahead ≤ 60)) }
         ensures fault { IfErr result (λ fault. finished self ≡ Err fault) }
     {
         let ahead = self.ahead.unwrap_or(DEFAULT_AHEAD);
         let failures = self.failures;
+        let operators = self.operators;
         let (clients, plain) = (self.clients, self.plain);
         if clients.is_empty() && plain.is_empty() {
             return Err(LineFault::NoClient);
         }
         Ok(Clients {
             clients,
+            operators,
             plain,
             ahead,
             failures,
@@ -182,37 +205,71 @@ fn has_block(block: &[u8], clients: &[ClientEntry]) -> bool
         .any(|client| is_same(&block_of(&client.key), block))
 }
 
-/// Returns the number of a client, which no other client has.
-fn new_number(clients: &[ClientEntry], text: &[u8]) -> Result<u16, LineFault>
-    ensures { result ≡ new_number clients.now text.now }
+/// Returns whether one of the operators has the number.
+fn has_operator(number: u16, operators: &[OperatorEntry]) -> bool
+    ensures { result ≡ has_operator number operators.now }
+{
+    operators.iter().any(|operator| operator.number == number)
+}
+
+/// Returns whether one of the operators has a key with the block.
+fn operators_have(block: &[u8], operators: &[OperatorEntry]) -> bool
+    ensures { result ≡ operators_have block.now operators.now }
+{
+    operators
+        .iter()
+        .any(|operator| is_same(&block_of(&operator.key), block))
+}
+
+/// Returns the number of a client or operator, which no other one has.
+fn new_number(
+    clients: &[ClientEntry],
+    operators: &[OperatorEntry],
+    text: &[u8],
+) -> Result<u16, LineFault>
+    ensures { result ≡ new_number clients.now operators.now text.now }
 {
     let number = number_within(0, MAX_NUMBER, text)? as u16;
     if has_number(number, clients) {
         return Err(LineFault::Twice);
     }
+    if has_operator(number, operators) {
+        return Err(LineFault::Twice);
+    }
     Ok(number)
 }
 
-/// Returns the key of a client, which no other client has.
-fn new_key(clients: &[ClientEntry], text: &[u8]) -> Result<ClientKey, LineFault>
-    ensures { result ≡ new_key clients.now text.now }
+/// Returns the key of a client or operator, which no other one has.
+fn new_key(
+    clients: &[ClientEntry],
+    operators: &[OperatorEntry],
+    text: &[u8],
+) -> Result<ClientKey, LineFault>
+    ensures { result ≡ new_key clients.now operators.now text.now }
 {
     let key = key(text)?;
     if has_block(&block_of(&key), clients) {
         return Err(LineFault::SameKey);
     }
+    if operators_have(&block_of(&key), operators) {
+        return Err(LineFault::SameKey);
+    }
     Ok(key)
 }
 
-/// Returns the client that a line adds.
-fn next_client(clients: &[ClientEntry], rest: &[u8]) -> Result<ClientEntry, LineFault>
-    ensures client { result ≡ client_of clients.now (fields_of rest.now) }
-    ensures room { IfOk result (λ _. length clients.now < 64) }
+/// Returns the number and the key that a line adds.
+fn next_client(
+    clients: &[ClientEntry],
+    operators: &[OperatorEntry],
+    rest: &[u8],
+) -> Result<ClientEntry, LineFault>
+    ensures client { result ≡ client_of clients.now operators.now (fields_of rest.now) }
+    ensures room { IfOk result (λ _. length clients.now + length operators.now < 64) }
 {
     let (number, key) = two_fields(rest)?;
-    let number = new_number(clients, number)?;
-    let key = new_key(clients, key)?;
-    if clients.len() >= MAX_CLIENTS {
+    let number = new_number(clients, operators, number)?;
+    let key = new_key(clients, operators, key)?;
+    if clients.len() + operators.len() >= MAX_CLIENTS {
         return Err(LineFault::TooMany);
     }
     Ok(ClientEntry { number, key })

@@ -1,6 +1,6 @@
 //! A clients file of two clients, and the texts of faults.
 
-use crate::{Clients, read_clients};
+use crate::{Clients, Right, read_clients};
 use std::alloc::Global;
 use std::test::Fail;
 
@@ -26,6 +26,24 @@ fn are_of_file(clients: &Clients) -> bool {
         && clients.failures == Some(20)
 }
 
+/// A client, an operator and a reader.
+const OPERATORS_FILE: &[u8] = b"operator 900 0f0e0d0c0b0a09080706050403020100\n\
+    client 7 000102030405060708090a0b0c0d0e0f\n\
+    reader 901 0f0e0d0c0b0a09080706050403020101\n";
+
+/// Returns whether `clients` has the operators of [`OPERATORS_FILE`].
+fn has_operators(clients: &Clients) -> bool {
+    let [operator, reader] = clients.operators.as_slice() else {
+        return false;
+    };
+    operator.number == 900
+        && operator.key.as_slice()[15] == 0
+        && operator.right == Right::Operator
+        && reader.number == 901
+        && reader.key.as_slice()[15] == 1
+        && reader.right == Right::Reader
+}
+
 /// Returns whether a file has the fault with the text.
 fn has_fault(alloc: Global, file: &[u8], text: &str) -> Result<bool, Fail> {
     match read_clients(alloc, file) {
@@ -39,6 +57,15 @@ fn has_fault(alloc: Global, file: &[u8], text: &str) -> Result<bool, Fail> {
 fn reads_each_word(rt: HostRuntime) -> Result<(), Fail> {
     let clients = read_clients(rt.alloc(), FILE)?;
     assert!(rt; are_of_file(&clients));
+    Ok(())
+}
+
+/// A file with operators is read.
+#[test]
+fn reads_operators(rt: HostRuntime) -> Result<(), Fail> {
+    let clients = read_clients(rt.alloc(), OPERATORS_FILE)?;
+    assert!(rt; clients.clients.len() == 1);
+    assert!(rt; has_operators(&clients));
     Ok(())
 }
 

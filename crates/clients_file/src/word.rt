@@ -7,6 +7,10 @@ ghost use Rattle.clients_file.specs.Fields.{word_of};
 pub(crate) enum Word {
     /// A client and its key.
     Client,
+    /// An operator that may send all requests, and its key.
+    Operator,
+    /// An operator that may send the requests that change nothing, and its key.
+    Reader,
     /// An address from which lines are taken plainly.
     Plain,
     /// The number of seconds by which a line's moment may be ahead of the clock.
@@ -28,6 +32,10 @@ pub(crate) fn read_word(text: &[u8]) -> Option<Word>
 {
     let word = if is_same(text, b"client") {
         Word::Client
+    } else if is_same(text, b"operator") {
+        Word::Operator
+    } else if is_same(text, b"reader") {
+        Word::Reader
     } else if is_same(text, b"plain") {
         Word::Plain
     } else if is_same(text, b"ahead") {

@@ -8,11 +8,13 @@ pub record Keyed : Type 0 where
   pub key : List ℕ
   pub ahead : ℕ
 
--- A gate before a node, which opens the sealed lines of its clients: the node, the clients, the IPv4 addresses whose
--- clients may speak plainly, and the most failures of a client in a minute, if they are limited.
+-- A gate before a node, which opens the sealed lines of its clients and the requests of its operators: the node, the
+-- clients, the operators, the IPv4 addresses whose clients may speak plainly, and the most failures of a client in a
+-- minute, if they are limited.
 pub record GateSetup : Type 0 where
   pub node : ℕ
   pub clients : List Keyed
+  pub operators : List Keyed
   pub plain : List ℕ
   pub most : Option ℕ
 

@@ -8,7 +8,8 @@ use Rattle.datagram_port.specs.declared.port.Received.TheVariants.{Datagram, Qui
 use Rattle.datagram_port.specs.declared.port.Sender.{Sender}
 use Rattle.datagram_port.specs.declared.port.Sender.TheVariants.{Client, Peer}
 use Rattle.named_wire.specs.declared.head.Head.{Head}
-use Rattle.floor_port.specs.Packer.{PackerRecord, after_event, after_member, after_offer, after_told, floor_head, new_packer, next_bytes, told_at, told_by, turns_due, with_others}
+use Rattle.floor_port.specs.Claims.{is_fallen}
+use Rattle.floor_port.specs.Packer.{PackerRecord, after_datagram, after_event, after_held, after_member, after_offer, after_told, fall_by, floor_head, new_packer, next_bytes, told_at, told_by, turns_due, with_claims, with_others}
 use Rattle.floor_port.specs.Rows.{RowsRecord, after_news, after_turn, after_turns, after_witness, news}
 use Rattle.floor_port.specs.Runs.{Call, Came, Left, Offer, IsAfter, may_call, may_make, after, after_calls, at_start, below, below_events, handed, handed_events}
 use Rattle.floor_port.specs.declared.record.Record.{Record}
@@ -66,12 +67,24 @@ start_told p None floors = refl
 start_told p (Some told) floors =
     start_others (record p { rows = after_news p.rows told.1 }) (floor_head told.0) (news p.rows.names p.rows.known told.1) floors
 
-start_datagram : (p : PackerRecord) (member : ℕ) (bytes floors : List ℕ) → at_start (after_event p (Received (Peer member) bytes)) floors ≡ at_start p floors
-start_datagram p member bytes floors = let told = told_by p member bytes in
-    start_told (after_member p member told) told floors ∙ start_member p member told floors
+start_claims : (p : PackerRecord) (member : ℕ) (told : Option (Head × List NamedFloor)) (floors : List ℕ) → at_start (with_claims p member told) floors ≡ at_start p floors
+start_claims p member None floors = refl
+start_claims p member (Some told) floors = refl
+
+start_floors : (p : PackerRecord) (member : ℕ) (told : Option (Head × List NamedFloor)) (fall : Option NamedFloor) (floors : List ℕ)
+    → at_start (after_held p member told fall) floors ≡ at_start p floors
+start_floors p member told None floors = start_told (after_member p member told) told floors ∙ start_member p member told floors
+start_floors p member told (Some floor) floors = refl
+
+start_datagram : (p : PackerRecord) (member : ℕ) (told : Option (Head × List NamedFloor)) (floors : List ℕ) → at_start (after_datagram p member told) floors ≡ at_start p floors
+start_datagram p member told floors = go (is_fallen p.claims member)
+  where
+    go : (fallen : Bool) → at_start (cond fallen p (after_held (with_claims p member told) member told (fall_by p member told))) floors ≡ at_start p floors
+    go true = refl
+    go false = start_floors (with_claims p member told) member told (fall_by p member told) floors ∙ start_claims p member told floors
 
 start_event : (p : PackerRecord) (event : PortEvent) (floors : List ℕ) → at_start (after_event p event) floors ≡ at_start p floors
-start_event p (Received (Peer member) bytes) floors = start_datagram p member bytes floors
+start_event p (Received (Peer member) bytes) floors = start_datagram p member (told_by p member bytes) floors
 start_event p (Received (Client number) bytes) floors = refl
 start_event p Quiet floors = ap (λ (names : List (List ℕ)). new_packer p.key names p.me p.boot p.members floors) (turns_names p.rows (turns_due p))
 start_event p Faulted floors = refl

@@ -1,5 +1,5 @@
 -- No turn tells the floor of a fresh row.
-use Rattle.std.proofs.Common.{◌≡◌, ℕ, zero, suc, ◌+◌, ◌<◌, Bool, true, false, cond, eqb, leb, ltb, List, [], ◌∷◌, ◌++◌, length, take, drop, Option, Some, None, refl, sym, ap, ◌∙◌, arith, eq-eqb, inl, inr}
+use Rattle.std.proofs.Common.{◌≡◌, ℕ, zero, suc, ◌+◌, ◌<◌, Bool, true, false, cond, eqb, leb, List, [], ◌∷◌, ◌++◌, length, take, drop, Option, Some, refl, ap, ◌∙◌, arith, eq-eqb, inl, inr}
 use Rattle.std.specs.Prelude.{◌||◌, slice_get, slice_index}
 use Rattle.std.proofs.lemmas.Bool.{lt-ltb, lt-leb}
 use Rattle.named_port.specs.Names.{number_of}

@@ -1,9 +1,13 @@
 pub mod FloorLemmas
 pub mod RowLemmas
 pub mod FreshLemmas
+pub mod KeepLemmas
 pub mod OfferLemmas
 pub mod CallLemmas
+pub mod ClaimLemmas
 pub mod HandLemmas
+pub mod SilenceLemmas
+pub mod FellLemmas
 pub mod ToldLemmas
 pub mod SpellingLemmas
 pub mod SetupLemmas

@@ -3,7 +3,9 @@ use Rattle.std.proofs.Common.{◌≡◌, ℕ, zero, suc, ◌+◌, ◌-◌, ◌<�
 use Rattle.std.specs.Prelude.{slice_get, slice_index, slice_set, IfSome}
 use Rattle.std.proofs.lemmas.List.{drop_more, get_or-drop, length-drop, length-set, length-take, take_all, take_more}
 use Rattle.std.proofs.lemmas.Option.{slice_get_within}
-use Rattle.floor_port.specs.Rows.{after_floor, after_floors, is_fresh, is_news, named_floors, news, not_fresh, raised}
+use Rattle.floor_port.specs.Rows.{after_floor, after_floors, is_fresh, is_news, named_floors, news, not_fresh, raised, rows_of}
+use Rattle.named_port.proofs.NamesLemmas.{name_of_number}
+use Rattle.named_port.specs.Names.{number_of}
 use Rattle.floor_port.specs.declared.floor.NamedFloor.{NamedFloor}
 
 -- a row of a name is within the names
@@ -11,6 +13,44 @@ pub row_within : (names : List (List ℕ)) (name : List ℕ) (row : Option ℕ) 
     → IfSome row (λ n. n < length names)
 row_within names name None at = tt
 row_within names name (Some n) at = slice_get_within names n name at
+
+-- ---- the rows of floors
+
+rows_len : (names : List (List ℕ)) (floors : List NamedFloor) → length (rows_of names floors) ≡ length floors
+rows_len names [] = refl
+rows_len names (floor ∷ floors) = let rest = rows_len names floors in omega (arith, rest)
+
+-- there is a row for each floor
+pub rows_within : (names : List (List ℕ)) (rows : List (Option ℕ)) (floors : List NamedFloor) (place : ℕ) → rows ≡ rows_of names floors → place < length floors → place < length rows
+rows_within names rows floors place are low =
+    let len = ap (λ (l : List (Option ℕ)). length l) are ∙ rows_len names floors in omega (arith, len, low)
+
+row_there : (names : List (List ℕ)) (floors : List NamedFloor) (place : ℕ) (floor : NamedFloor) → place < length floors → get_or floors place floor ≡ floor
+    → get_or (rows_of names floors) place None ≡ number_of names floor.name
+row_there names [] place floor low at = absurd (omega (arith, low))
+row_there names (one ∷ floors) zero floor low at = ap (λ (f : NamedFloor). number_of names f.name) at
+row_there names (one ∷ floors) (suc place) floor low at = row_there names floors place floor (omega (arith, low)) at
+
+-- the row at a place is that of the floor there
+pub row_at : (names : List (List ℕ)) (rows : List (Option ℕ)) (floors : List NamedFloor) (place : ℕ) (floor : NamedFloor) → rows ≡ rows_of names floors → place < length floors
+    → get_or floors place floor ≡ floor → get_or rows place None ≡ number_of names floor.name
+row_at names rows floors place floor are low at = ap (λ (l : List (Option ℕ)). get_or l place None) are ∙ row_there names floors place floor low at
+
+-- a row of a name is within a list with as many elements as names
+pub number_within : (names : List (List ℕ)) (name : List ℕ) (row : Option ℕ) (len : ℕ) → row ≡ number_of names name → len ≡ length names → IfSome row (λ n. n < len)
+number_within names name None len is same = tt
+number_within names name (Some n) len is same =
+    let low = slice_get_within names n name (name_of_number names n name (sym is)) in omega (arith, low, same)
+
+-- one more row
+pub rows_more : (names : List (List ℕ)) (floors : List NamedFloor) (place : ℕ) (floor : NamedFloor) → place < length floors → get_or floors place floor ≡ floor
+    → rows_of names (take (place + 1) floors) ≡ rows_of names (take place floors) ++ number_of names floor.name ∷ []
+rows_more names [] place floor low at = absurd (omega (arith, low))
+rows_more names (one ∷ floors) zero floor low at = ap (λ (f : NamedFloor). number_of names f.name ∷ []) at
+rows_more names (one ∷ floors) (suc place) floor low at =
+    let next : suc place + 1 ≡ suc (place + 1) = omega arith in
+    ap (λ (n : ℕ). rows_of names (take n (one ∷ floors))) next
+    ∙ ap (λ (l : List (Option ℕ)). number_of names one.name ∷ l) (rows_more names floors place floor (omega (arith, low)) at)
 
 -- ---- news
 

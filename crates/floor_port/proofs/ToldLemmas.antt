@@ -9,7 +9,8 @@ use Rattle.datagram_port.specs.declared.port.Sender.TheVariants.{Client, Peer}
 use Rattle.named_port.specs.Names.{number_of}
 use Rattle.named_wire.specs.declared.head.Head.{Head}
 use Rattle.floor_port.specs.Floors.{floors_body}
-use Rattle.floor_port.specs.Packer.{PackerRecord, after_member, after_told, body_of, body_offers, floor_head, floors_datagram, member_offer, new_packer, offers_of, told_by, turn_offers, turns_due, with_others}
+use Rattle.floor_port.specs.Claims.{is_fallen}
+use Rattle.floor_port.specs.Packer.{PackerRecord, after_datagram, after_held, after_member, after_told, body_of, body_offers, fall_by, floor_head, floors_datagram, member_offer, new_packer, offers_of, told_by, turn_offers, turns_due, with_claims, with_others}
 use Rattle.floor_port.specs.Promises.{Among, IsOwnFloor, IsWitnessed, TellsFloors}
 use Rattle.floor_port.specs.Rows.{RowsRecord, after_floor, after_floors, after_news, after_telling, after_turn, after_turns, after_witness, is_fresh, named_floors, news, next_floors, not_fresh, raised}
 use Rattle.floor_port.specs.Runs.{Call, Came, Left, Offer, after, after_calls, below, below_events, may_call, may_make}
@@ -81,10 +82,26 @@ floors_rise : (p : PackerRecord) (told : Option (Head × List NamedFloor)) → H
 floors_rise p None = same_rise p.rows
 floors_rise p (Some told) = subst (HaveRisen p.rows) (sym (news_rows p told)) (news_rise p.rows told.1)
 
-datagram_rise : (p : PackerRecord) (member : ℕ) (told : Option (Head × List NamedFloor)) → HaveRisen p.rows (after_told (after_member p member told) told).rows
-datagram_rise p member told =
+member_rise : (p : PackerRecord) (member : ℕ) (told : Option (Head × List NamedFloor)) → HaveRisen p.rows (after_told (after_member p member told) told).rows
+member_rise p member told =
     subst (λ (rows : RowsRecord). HaveRisen rows (after_told (after_member p member told) told).rows) (member_rows p member told)
     (floors_rise (after_member p member told) told)
+
+claims_rows : (p : PackerRecord) (member : ℕ) (told : Option (Head × List NamedFloor)) → (with_claims p member told).rows ≡ p.rows
+claims_rows p member None = refl
+claims_rows p member (Some told) = refl
+
+fall_rise : (p : PackerRecord) (member : ℕ) (told : Option (Head × List NamedFloor)) (fall : Option NamedFloor) → HaveRisen p.rows (after_held p member told fall).rows
+fall_rise p member told None = member_rise p member told
+fall_rise p member told (Some floor) = same_rise p.rows
+
+datagram_rise : (p : PackerRecord) (member : ℕ) (told : Option (Head × List NamedFloor)) → HaveRisen p.rows (after_datagram p member told).rows
+datagram_rise p member told = go (is_fallen p.claims member)
+  where
+    go : (fallen : Bool) → HaveRisen p.rows (cond fallen p (after_held (with_claims p member told) member told (fall_by p member told))).rows
+    go true = same_rise p.rows
+    go false = subst (λ (rows : RowsRecord). HaveRisen rows (after_held (with_claims p member told) member told (fall_by p member told)).rows) (claims_rows p member told)
+        (fall_rise (with_claims p member told) member told (fall_by p member told))
 
 witness_rise : (rows : RowsRecord) (floor : Option NamedFloor) → HaveRisen rows (after_witness rows floor)
 witness_rise rows None = same_rise rows
@@ -161,8 +178,16 @@ floors_told : (p : PackerRecord) (told : Option (Head × List NamedFloor)) → (
 floors_told p None = refl
 floors_told p (Some told) = ap (λ (rows : RowsRecord). rows.told) (news_rows p told)
 
-datagram_told : (p : PackerRecord) (member : ℕ) (told : Option (Head × List NamedFloor)) → (after_told (after_member p member told) told).rows.told ≡ p.rows.told
-datagram_told p member told = floors_told (after_member p member told) told ∙ ap (λ (rows : RowsRecord). rows.told) (member_rows p member told)
+fall_told : (p : PackerRecord) (member : ℕ) (told : Option (Head × List NamedFloor)) (fall : Option NamedFloor) → (after_held p member told fall).rows.told ≡ p.rows.told
+fall_told p member told None = floors_told (after_member p member told) told ∙ ap (λ (rows : RowsRecord). rows.told) (member_rows p member told)
+fall_told p member told (Some floor) = refl
+
+datagram_told : (p : PackerRecord) (member : ℕ) (told : Option (Head × List NamedFloor)) → (after_datagram p member told).rows.told ≡ p.rows.told
+datagram_told p member told = go (is_fallen p.claims member)
+  where
+    go : (fallen : Bool) → (cond fallen p (after_held (with_claims p member told) member told (fall_by p member told))).rows.told ≡ p.rows.told
+    go true = refl
+    go false = fall_told (with_claims p member told) member told (fall_by p member told) ∙ ap (λ (rows : RowsRecord). rows.told) (claims_rows p member told)
 
 own_one : (p : PackerRecord) (floors : List ℕ) (all : List Call) (call : Call) → Among all call → AreOwn p.rows.names floors all p.rows.told → AreOwn p.rows.names floors all (after p call).rows.told
 own_one p floors all (Came (Received (Peer member) bytes)) made own = subst (AreOwn p.rows.names floors all) (sym (datagram_told p member (told_by p member bytes))) own

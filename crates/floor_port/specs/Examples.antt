@@ -7,9 +7,12 @@ use Rattle.named_wire.specs.declared.head.Head.{Head}
 use Rattle.named_wire.specs.declared.head.Kind.{Kind}
 use Rattle.named_wire.specs.declared.head.Kind.TheVariants.{Floor}
 use Rattle.vote_wire.specs.Examples.{eight_bytes}
+use Rattle.node_log.specs.declared.gatekeeper.Fell.{Fell}
+use Rattle.floor_port.specs.Claims.{ClaimsRecord, no_claim}
 use Rattle.floor_port.specs.Pace.{PaceRecord}
 use Rattle.floor_port.specs.Packer.{PackerRecord, PendingRecord, new_packer}
 use Rattle.floor_port.specs.Rows.{RowsRecord}
+use Rattle.floor_port.specs.declared.claims.Claim.{Claim}
 use Rattle.floor_port.specs.declared.floor.NamedFloor.{NamedFloor}
 
 -- a key of 32 zeros
@@ -43,6 +46,39 @@ fresh_rows fresh = record (rows_with (5 ∷ 6 ∷ 7 ∷ []) (8 ∷ 8 ∷ 8 ∷ [
 -- node 2 with rows
 abbrev pub node_2_over : RowsRecord → PackerRecord
 node_2_over rows = record node_2 { rows = rows }
+
+-- a boot and a floor that a member told last
+abbrev pub claim : ℕ → ℕ → Claim
+claim boot next = record { boot = boot; next = next }
+
+-- the claims of member 1 about the three rows, whose greatest boot is the given one
+abbrev pub claims_of_1 : ℕ → Claim → Claim → Claim → ClaimsRecord
+claims_of_1 boot first second third = record {
+  boots = 0 ∷ boot ∷ replicate 8 0;
+  fallen = replicate 10 false;
+  kept = first ∷ replicate 8 no_claim ++ second ∷ replicate 8 no_claim ++ third ∷ replicate 8 no_claim;
+}
+
+-- member 1 told two floors in its boot 4
+abbrev pub told_in_4 : ClaimsRecord
+told_in_4 = claims_of_1 4 (claim 4 6) no_claim (claim 4 9)
+
+-- claims of member 1, after a floor of it fell
+abbrev pub fallen_1 : ℕ → Claim → Claim → Claim → ClaimsRecord
+fallen_1 boot first second third =
+    record (claims_of_1 boot first second third) { fallen = false ∷ true ∷ replicate 8 false }
+
+-- the floor of a token with this name fell at member 1
+abbrev pub fell_1 : ℕ → Fell
+fell_1 byte = record { member = 1; name = name_with byte }
+
+-- node 2 with claims
+abbrev pub node_2_told : ClaimsRecord → PackerRecord
+node_2_told claims = record node_2 { claims = claims }
+
+-- node 2, after a floor of member 1 fell
+abbrev pub fallen_node : PackerRecord
+fallen_node = node_2_told (fallen_1 4 (claim 3 7) no_claim no_claim)
 
 -- a pace with a number of quiet turns until member 1 is silent, and of a fast round
 abbrev pub pace_with : ℕ → ℕ → PaceRecord
@@ -86,13 +122,32 @@ one_tag =
 abbrev pub one_floor : List ℕ
 one_floor = head_bytes_of 4 ++ name_with 0xaa ++ eight_bytes 6 ++ one_tag
 
+-- the tag of a datagram of a lower floor of the first token, of boot 5
+abbrev pub lower_tag : List ℕ
+lower_tag =
+    0x57 ∷ 0xd2 ∷ 0x22 ∷ 0x21 ∷ 0xc6 ∷ 0x89 ∷ 0x81 ∷ 0x26 ∷ 0xf6 ∷ 0xf4 ∷ 0x9b ∷ 0xb3 ∷ 0x5d ∷ 0xcc ∷ 0x58 ∷ 0xbe ∷ []
+
+-- the datagram of this floor
+abbrev pub lower_floor : List ℕ
+lower_floor =
+    0x4f ∷ 0x56 ∷ 3 ∷ 4 ∷ 1 ∷ 2 ∷ eight_bytes 5 ++ name_with 0xaa ++ eight_bytes 5 ++ lower_tag
+
+-- the tag of a datagram of the same floor, of boot 4
+abbrev pub equal_tag : List ℕ
+equal_tag =
+    0xf3 ∷ 0x6e ∷ 0x20 ∷ 0x53 ∷ 0xd3 ∷ 0x15 ∷ 0x57 ∷ 0x51 ∷ 0x7a ∷ 0xe0 ∷ 0x3a ∷ 0x38 ∷ 0x80 ∷ 0x6c ∷ 0xf4 ∷ 0x55 ∷ []
+
+-- the datagram of this floor
+abbrev pub equal_floor : List ℕ
+equal_floor = head_bytes_of 4 ++ name_with 0xaa ++ eight_bytes 5 ++ equal_tag
+
 -- a Deny with the floor 9 of the first token
 abbrev pub deny_of_9 : List ℕ
 deny_of_9 = head_bytes_of 3 ++ name_with 0xaa ++ replicate 17 0 ++ eight_bytes 9 ++ replicate 16 0
 
--- an Ask of the first token, whose span ends with a factor that is written so
-abbrev pub ask_upto : List ℕ → List ℕ
-ask_upto last = head_bytes_of 1 ++ name_with 0xaa ++ replicate 25 0 ++ last ++ replicate 16 0
+-- an Ask of the first token, with the first factor of its span and the low byte of the last one
+abbrev pub ask_of : List ℕ → ℕ → List ℕ
+ask_of first low = head_bytes_of 1 ++ name_with 0xaa ++ replicate 16 0 ++ first ++ low ∷ replicate 16 0
 
 -- a datagram comes from member 1
 abbrev pub from_1 : List ℕ → PortEvent

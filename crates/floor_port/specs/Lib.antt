@@ -1,6 +1,7 @@
 pub mod Floors
 pub mod Witness
 pub mod Rows
+pub mod Claims
 pub mod Pace
 pub mod Packer
 pub mod Runs

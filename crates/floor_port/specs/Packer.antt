@@ -8,6 +8,8 @@ use Rattle.named_wire.specs.Datagram.{datagram_at, datagram_bytes}
 use Rattle.named_wire.specs.declared.head.Head.{Head}
 use Rattle.named_wire.specs.declared.head.Kind.TheVariants.{Floor, Floors}
 use Rattle.named_port.specs.Translator.{between}
+use Rattle.node_log.specs.declared.gatekeeper.Fell.{Fell}
+use Rattle.floor_port.specs.Claims.{ClaimsRecord, claims_after, falls, fell_of, is_fallen, new_claims}
 use Rattle.floor_port.specs.Floors.{floor_bytes, floors_body, told_in}
 use Rattle.floor_port.specs.Pace.{PaceRecord, after_heard, after_quiet, due, new_pace}
 use Rattle.floor_port.specs.Rows.{RowsRecord, after_news, after_telling, after_turn, after_turns, after_witness, new_rows, news, next_floors, turns_of}
@@ -20,7 +22,7 @@ pub record PendingRecord : Type 0 where
   pub floors : List NamedFloor
 
 -- A packer of a node: the key of the tags, the node with its boot, the number of members, the rows of its book, its
--- pace, and the floors that are left to hand in.
+-- pace, the floors that are left to hand in, and what the members told of their floors.
 pub record PackerRecord : Type 0 where
   pub key : List ℕ
   pub me : ℕ
@@ -29,6 +31,7 @@ pub record PackerRecord : Type 0 where
   pub rows : RowsRecord
   pub pace : PaceRecord
   pub pending : PendingRecord
+  pub claims : ClaimsRecord
 
 -- no floor is left to hand in to the node
 abbrev pub nothing_pending : ℕ → PendingRecord
@@ -44,6 +47,7 @@ new_packer key names me boot members floors = record {
   rows = new_rows names floors;
   pace = new_pace (length floors);
   pending = nothing_pending me;
+  claims = new_claims (length floors);
 }
 
 -- ---- floors that the node is told
@@ -114,15 +118,57 @@ after_member packer member None = packer
 after_member packer member (Some told) =
     record packer { pace = after_heard packer.pace member (length packer.rows.told) }
 
+-- ---- members that went back
+
+-- the floor by which a member falls, if it does by the floors that it tells
+abbrev pub fall_by : PackerRecord → ℕ → Option (Head × List NamedFloor) → Option NamedFloor
+fall_by packer member None = None
+fall_by packer member (Some told) = falls packer.claims packer.rows.names member told.0.boot told.1
+
+-- the packer with the claims after the floors that a member told
+abbrev pub with_claims : PackerRecord → ℕ → Option (Head × List NamedFloor) → PackerRecord
+with_claims packer member None = packer
+with_claims packer member (Some told) =
+    record packer { claims = claims_after packer.claims packer.rows.names member told.0.boot told.1 }
+
+-- The packer after floors of a member were held against its claims. By a fall nothing is learned, and no floor is left.
+abbrev pub after_held : PackerRecord → ℕ → Option (Head × List NamedFloor) → Option NamedFloor → PackerRecord
+after_held packer member told None = after_told (after_member packer member told) told
+after_held packer member told (Some floor) =
+    record packer { pending = record packer.pending { floors = [] } }
+
+-- the packer after a datagram of a member: that of one whose floor fell before changes nothing
+abbrev pub after_datagram : PackerRecord → ℕ → Option (Head × List NamedFloor) → PackerRecord
+after_datagram packer member told =
+    if is_fallen packer.claims member then packer
+    else after_held (with_claims packer member told) member told (fall_by packer member told)
+
+-- the fall of a member by a datagram, if it falls
+abbrev pub fell_by : PackerRecord → ℕ → Option (Head × List NamedFloor) → Option Fell
+fell_by packer member told =
+    if is_fallen packer.claims member then None else fell_of member (fall_by packer member told)
+
+-- the bytes that are handed in for floors that are told, by which the member fell or didn't, if they aren't the same
+abbrev pub bytes_of : PackerRecord → Option (Head × List NamedFloor) → Option NamedFloor → Option (List ℕ)
+bytes_of packer told None = first_told packer told
+bytes_of packer told (Some floor) = Some []
+
+-- the bytes that are handed in for a datagram of a member, if they aren't the same
+abbrev pub bytes_for : PackerRecord → ℕ → Option (Head × List NamedFloor) → Option (List ℕ)
+bytes_for packer member told =
+    if is_fallen packer.claims member then Some [] else bytes_of packer told (fall_by packer member told)
+
+-- ---- the events of the port below
+
 -- the first bytes if there are any, else the others
 abbrev pub bytes_or : Option (List ℕ) → List ℕ → List ℕ
 bytes_or None others = others
 bytes_or (Some first) others = first
 
 -- The bytes that are handed in for a member's datagram: the datagram of the first of its news, or the same bytes if it
--- has no news.
+-- has no news. There are none if a floor of the member fell.
 abbrev pub member_bytes : PackerRecord → ℕ → List ℕ → List ℕ
-member_bytes packer member bytes = bytes_or (first_told packer (told_by packer member bytes)) bytes
+member_bytes packer member bytes = bytes_or (bytes_for packer member (told_by packer member bytes)) bytes
 
 -- the event that is handed to the node for an event of the port below
 abbrev pub handed_in : PackerRecord → PortEvent → PortEvent
@@ -187,12 +233,19 @@ after_quiet_turn packer = record packer {
 -- the packer after an event of the port below
 abbrev pub after_event : PackerRecord → PortEvent → PackerRecord
 after_event packer (Received (Peer member) bytes) =
-    let told = told_by packer member bytes in
-    after_told (after_member packer member told) told
+    after_datagram packer member (told_by packer member bytes)
 after_event packer (Received (Client number) bytes) = packer
 after_event packer Quiet = after_quiet_turn packer
 after_event packer Faulted = packer
 after_event packer (Offered to bytes) = packer
+
+-- the fall that an event of the port below shows, if it shows one
+abbrev pub fell_at : PackerRecord → PortEvent → Option Fell
+fell_at packer (Received (Peer member) bytes) = fell_by packer member (told_by packer member bytes)
+fell_at packer (Received (Client number) bytes) = None
+fell_at packer Quiet = None
+fell_at packer Faulted = None
+fell_at packer (Offered to bytes) = None
 
 -- the packer after an offer of the node
 abbrev pub after_offer : PackerRecord → Sender → List ℕ → PackerRecord

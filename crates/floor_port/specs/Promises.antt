@@ -1,5 +1,5 @@
 -- What a port that tells floors promises of what it hands in and of what it offers, in all executions.
-use Rattle.std.specs.Prelude.{◌≡◌, ◌⊎◌, ℕ, ◌≤◌, false, List, [], ◌∷◌, length, slice_get, Some}
+use Rattle.std.specs.Prelude.{◌≡◌, ◌⊎◌, ℕ, ◌<◌, ◌≤◌, false, List, [], ◌∷◌, length, slice_get, Some}
 use Rattle.datagram_port.specs.Port.{PortEvent, Received, Offered}
 use Rattle.datagram_port.specs.declared.port.Sender.{Sender}
 use Rattle.datagram_port.specs.declared.port.Sender.TheVariants.{Peer}
@@ -35,6 +35,19 @@ pub record IsTold (key : List ℕ) (me : ℕ) (calls : List Call) (head : Head) 
   pub tells : told_in sent.kind body ≡ Some floors
   pub floor_is : Among floors floor
 
+-- A member went back, by the floors of a token: in an earlier boot it told a greater one than in a later boot.
+pub record WentBack (key : List ℕ) (me : ℕ) (calls : List Call) (member : ℕ) (name : List ℕ) : Type 0 where
+  pub earlier : Head
+  pub later : Head
+  pub greater : ℕ
+  pub lower : ℕ
+  pub told_earlier : IsTold key me calls earlier (record { name = name; next = greater })
+  pub told_later : IsTold key me calls later (record { name = name; next = lower })
+  pub from_earlier : earlier.from ≡ member
+  pub from_later : later.from ≡ member
+  pub is_later : earlier.boot < later.boot
+  pub is_lower : lower < greater
+
 -- an offer of the node
 pub record IsOwnOffer (calls : List Call) (event : PortEvent) : Type 0 where
   pub to : Sender
@@ -49,10 +62,21 @@ pub record IsFloorHanded (key : List ℕ) (me : ℕ) (calls : List Call) (event 
   pub is_told : IsTold key me calls head floor
   pub event_is : event ≡ Received (Peer head.from) (datagram_bytes key head (floor_bytes floor))
 
--- an event of a node's port: one that the port below received, an offer of the node, or a floor that a member told
+-- a datagram of a member that went back, without its bytes
+pub record IsSilenced (key : List ℕ) (me : ℕ) (calls : List Call) (event : PortEvent) : Type 0 where
+  pub member : ℕ
+  pub datagram : List ℕ
+  pub came : Among calls (Came (Received (Peer member) datagram))
+  pub name : List ℕ
+  pub went_back : WentBack key me calls member name
+  pub event_is : event ≡ Received (Peer member) []
+
+-- an event of a node's port: one that the port below received, an offer of the node, a floor that a member told, or a
+-- datagram of a member that went back, without its bytes
 abbrev pub HandsIn : List ℕ → ℕ → List Call → PortEvent → Type 0
 HandsIn key me calls event =
-    Among calls (Came event) ⊎ (IsOwnOffer calls event ⊎ IsFloorHanded key me calls event)
+    Among calls (Came event)
+    ⊎ (IsOwnOffer calls event ⊎ (IsFloorHanded key me calls event ⊎ IsSilenced key me calls event))
 
 -- ---- what is offered
 

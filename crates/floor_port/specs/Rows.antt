@@ -1,5 +1,5 @@
 -- The floors of the rows of a book: those that the node bears witness to, and those that it was told.
-use Rattle.std.specs.Prelude.{◌≡◌, ℕ, zero, suc, ◌+◌, ◌≤◌, ◌==◌, ◌||◌, Bool, false, nat_lt, nat_le, if◌then◌else◌, List, [], ◌∷◌, ◌++◌, length, take, drop, slice_index, slice_set, Option, Some, None}
+use Rattle.std.specs.Prelude.{◌≡◌, ℕ, zero, suc, ◌+◌, ◌≤◌, ◌==◌, ◌||◌, Bool, false, nat_lt, nat_le, if◌then◌else◌, List, [], ◌∷◌, ◌++◌, length, map, take, drop, slice_index, slice_set, Option, Some, None}
 use Rattle.std.specs.Int.{div_ceil}
 use Rattle.std.specs.List.{list_any}
 use Rattle.named_port.specs.Names.{number_of}
@@ -17,6 +17,10 @@ abbrev pub raised : List ℕ → Option ℕ → ℕ → List ℕ
 raised floors None next = floors
 raised floors (Some number) next =
     if nat_lt (slice_index floors number) next then slice_set floors number next else floors
+
+-- the rows of the names of floors
+abbrev pub rows_of : List (List ℕ) → List NamedFloor → List (Option ℕ)
+rows_of names floors = map (λ floor. number_of names floor.name) floors
 
 -- whether a floor is news: it is of a name of the book, and above that of the row
 abbrev pub is_news : List (List ℕ) → List ℕ → NamedFloor → Bool

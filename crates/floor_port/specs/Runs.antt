@@ -1,9 +1,10 @@
 -- The calls of a node's port, and the events of it and of the port below.
-use Rattle.std.specs.Prelude.{◌≡◌, ℕ, ◌==◌, ◌&&◌, Bool, true, false, nat_le, List, [], ◌∷◌, ◌++◌, length, Option, Some}
+use Rattle.std.specs.Prelude.{◌≡◌, ℕ, ◌-◌, ◌≤◌, ◌==◌, ◌&&◌, Bool, true, false, nat_le, List, [], ◌∷◌, ◌++◌, length, drop, Option, Some, None}
 use Rattle.datagram_port.specs.Port.{PortEvent, Received, Quiet, Faulted, Offered}
 use Rattle.datagram_port.specs.declared.port.Sender.{Sender}
 use Rattle.datagram_port.specs.declared.port.Sender.TheVariants.{Peer}
-use Rattle.floor_port.specs.Packer.{PackerRecord, after_event, after_next, after_offer, handed_in, new_packer, next_bytes, told_at}
+use Rattle.node_log.specs.declared.gatekeeper.Fell.{Fell}
+use Rattle.floor_port.specs.Packer.{PackerRecord, after_event, after_next, after_offer, fell_at, handed_in, new_packer, next_bytes, told_at}
 
 -- A call of a node's port: the port below received an event, the next floor that was left is handed in, or the node
 -- offered a datagram.
@@ -44,6 +45,27 @@ handed_events packer (call ∷ calls) = handed packer call ∷ handed_events (af
 abbrev pub below_events : PackerRecord → List Call → List PortEvent
 below_events packer [] = []
 below_events packer (call ∷ calls) = below packer call ++ below_events (after packer call) calls
+
+-- the fall that a call shows, if it shows one
+abbrev pub fell_in : PackerRecord → Call → Option Fell
+fell_in packer (Came event) = fell_at packer event
+fell_in packer Left = None
+fell_in packer (Offer to bytes) = None
+
+-- the falls, with one before them if there is one
+abbrev pub fell_before : Option Fell → List Fell → List Fell
+fell_before None fells = fells
+fell_before (Some fell) fells = fell ∷ fells
+
+-- the falls that calls show, in order
+abbrev pub fells_over : PackerRecord → List Call → List Fell
+fells_over packer [] = []
+fells_over packer (call ∷ calls) = fell_before (fell_in packer call) (fells_over (after packer call) calls)
+
+-- the falls that a log wasn't told of are the last of all falls
+pub record AreUntold (fells all : List Fell) : Type 0 where
+  pub few : length fells ≤ length all
+  pub last : fells ≡ drop (length all - length fells) all
 
 -- Whether the port may make a call: it asks the port below if no floor is left, and else hands in the next one.
 abbrev pub may_call : PackerRecord → Call → Bool

@@ -1,13 +1,18 @@
-//! What a port that tells floors tells a log of the datagrams that it passed over: what the port below tells.
+//! What a port that tells floors tells a log of the datagrams that it passed over: the falls that it saw, and what the
+//! port below tells.
 
 use crate::port::FloorPort;
-use node_log::{Gatekeeper, Older, PLACES};
+use node_log::{Fell, Gatekeeper, Older, PLACES};
 use sealed_port::Unopened;
 
 impl<P: Gatekeeper + Drop> Gatekeeper for FloorPort<'_, P> {
+    ghost use Rattle.std.specs.Prelude.{slice_get};
+
     ghost unopened = { λ floors. P.unopened floors.port };
 
     ghost older = { λ floors. P.older floors.port };
+
+    ghost fell = { λ floors. slice_get floors.falls 0 };
 
     ghost differing = { λ floors. P.differing floors.port };
 
@@ -17,6 +22,10 @@ impl<P: Gatekeeper + Drop> Gatekeeper for FloorPort<'_, P> {
 
     fn take_older(&mut self) -> Option<Older> {
         self.port.take_older()
+    }
+
+    fn take_fell(&mut self) -> Option<Fell> {
+        FloorPort::take_fell(self)
     }
 
     fn take_differing(&mut self) -> [bool; PLACES] {

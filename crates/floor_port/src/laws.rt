@@ -1,13 +1,16 @@
-ghost use Rattle.std.specs.Prelude.{◌≡◌, ◌⊎◌, ◌↔◌, ◌+◌, ◌<◌, ◌≤◌, ℕ, List, [], Some, length, slice_index, true};
-ghost use Rattle.datagram_port.specs.Port.{Offered, PortEvent, Quiet};
+ghost use Rattle.std.specs.Prelude.{◌≡◌, ◌⊎◌, ◌↔◌, ◌<◌, ◌≤◌, ℕ, List, [], Some, length, slice_index, true};
+ghost use Rattle.datagram_port.specs.Port.{Offered, PortEvent, Quiet, Received};
 ghost use Rattle.datagram_port.specs.declared.port.Sender.{Sender};
+ghost use Rattle.datagram_port.specs.declared.port.Sender.TheVariants.{Peer};
 ghost use Rattle.named_port.specs.Names.{number_of};
 ghost use Rattle.named_wire.specs.Bytes.{AreBytes};
+ghost use Rattle.node_log.specs.declared.gatekeeper.Fell.{Fell};
+ghost use Rattle.floor_port.specs.Claims.{is_fallen};
 ghost use Rattle.floor_port.specs.Floors.{IsBodyOf, floors_at};
-ghost use Rattle.floor_port.specs.Packer.{PackerRecord, after_event, new_packer};
-ghost use Rattle.floor_port.specs.Promises.{Among, HandsIn, IsNotFresh, TellsFloors};
+ghost use Rattle.floor_port.specs.Packer.{PackerRecord, after_event, handed_in, new_packer};
+ghost use Rattle.floor_port.specs.Promises.{Among, HandsIn, IsNotFresh, TellsFloors, WentBack};
 ghost use Rattle.floor_port.specs.Rows.{RowsRecord, after_witness, is_fresh, next_floors};
-ghost use Rattle.floor_port.specs.Runs.{Call, Offer, after_calls, below_events, handed_events, may_make};
+ghost use Rattle.floor_port.specs.Runs.{Call, Offer, after_calls, below_events, fells_over, handed_events, may_make};
 ghost use Rattle.floor_port.specs.declared.floor.NamedFloor.{NamedFloor};
 
 /// One spelling: floors have one body, and a body one reading.
@@ -17,7 +20,7 @@ pub fn floors_one_spelling()
 {}
 
 /// Floors that are handed in: each event that the port hands in is one that the port below received, an offer of the
-/// node, or a floor that a member told under the key.
+/// node, or a floor that a member told under the key. A datagram of a member that went back has no bytes.
 pub fn what_is_handed_in_was_told()
     ensures { (key : List ℕ) (names : List (List ℕ)) (me boot members : ℕ) (floors : List ℕ) (calls : List Call)
         (event : PortEvent) → may_make (new_packer key names me boot members floors) calls ≡ true →
@@ -43,6 +46,30 @@ pub fn floors_rise()
         (calls : List Call) (row : ℕ) →
         slice_index floors row
         ≤ slice_index (after_calls (new_packer key names me boot members floors) calls).rows.told row }
+{}
+
+/// Fallen members are silent: after a floor of a member fell, each datagram of it is handed in without bytes. What it
+/// sends changes nothing, and it stays fallen.
+pub fn fallen_members_are_silent()
+    ensures without_bytes { (packer : PackerRecord) (member : ℕ) (bytes : List ℕ) →
+        is_fallen packer.claims member ≡ true →
+        handed_in packer (Received (Peer member) bytes) ≡ Received (Peer member) [] }
+    ensures changes_nothing { (packer : PackerRecord) (member : ℕ) (bytes : List ℕ) →
+        is_fallen packer.claims member ≡ true → after_event packer (Received (Peer member) bytes) ≡ packer }
+    ensures stays { (packer : PackerRecord) (calls : List Call) (member : ℕ) →
+        is_fallen packer.claims member ≡ true → is_fallen (after_calls packer calls).claims member ≡ true }
+    ensures in_all_executions { (key : List ℕ) (names : List (List ℕ)) (me boot members : ℕ) (floors : List ℕ)
+        (before calls : List Call) (member : ℕ) (bytes : List ℕ) →
+        is_fallen (after_calls (new_packer key names me boot members floors) before).claims member ≡ true →
+        Among (handed_events (after_calls (new_packer key names me boot members floors) before) calls)
+        (Received (Peer member) bytes) → bytes ≡ [] }
+{}
+
+/// Falls are true: each fall that a log is told of is of a member that told a lower floor of the token in a later boot.
+pub fn falls_are_true()
+    ensures { (key : List ℕ) (names : List (List ℕ)) (me boot members : ℕ) (floors : List ℕ) (calls : List Call)
+        (fell : Fell) → Among (fells_over (new_packer key names me boot members floors) calls) fell →
+        WentBack key me calls fell.member fell.name }
 {}
 
 /// Fresh floors wait: a floor that is told next is that of a row that isn't fresh. A witness that raises a floor makes

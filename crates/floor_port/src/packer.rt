@@ -1,15 +1,19 @@
 //! What becomes of datagrams that tell floors, and the floors that a node tells.
 
 ghost use Rattle.std.specs.Option.{option_map};
-ghost use Rattle.std.specs.Prelude.{◌≡◌, ◌≢◌, ◌≤◌, ◌==◌, if◌then◌else◌, length, take, drop, Some, None, IfOk};
+ghost use Rattle.arrayvec.specs.ArrayVec.{array_vec_len};
+ghost use Rattle.std.specs.Prelude.{◌≡◌, ◌≢◌, ◌≤◌, ◌==◌, if◌then◌else◌, length, take, drop, Some, None, IfOk, IfSome};
 ghost use Rattle.datagram_port.specs.Port.{IsWithin, Received as ReceivedEvent, event_of_receive};
 ghost use Rattle.datagram_port.specs.declared.port.Received.TheVariants.{Quiet};
 ghost use Rattle.datagram_port.specs.declared.port.Sender.TheVariants.{Peer};
+ghost use Rattle.floor_port.specs.Claims.{fell_of, with_fell};
 ghost use Rattle.floor_port.specs.Pace.{after_quiet};
 ghost use Rattle.floor_port.specs.Packer as spec;
-ghost use Rattle.floor_port.specs.Rows.{after_telling, after_turn, next_floors};
+ghost use Rattle.floor_port.specs.Rows.{after_telling, after_turn, next_floors, rows_of};
 
 use crate::body::{MAX_FLOORS, floor_body, floors_body, floors_told};
+use crate::claims::Claims;
+use crate::falls::Falls;
 use crate::floor::NamedFloor;
 use crate::pace::Pace;
 use crate::rows::Rows;
@@ -18,6 +22,7 @@ use arrayvec::ArrayVec;
 use datagram_port::{Received, Sender};
 use named_port::Names;
 use named_wire::{Head, Kind, MAX_BODY_LEN, MAX_DATAGRAM_LEN, read_datagram, write_datagram};
+use node_log::Fell;
 use otp_core::Next;
 use std::alloc::{AllocError, Global};
 use std::marker::Model;
@@ -59,9 +64,11 @@ pub(crate) struct Packer<'k> {
     rows: Rows<'k>,
     pace: Pace,
     pending: Pending,
+    claims: Claims,
 }
 
 impl<'k> Model for Packer<'k> {
+    ghost use Rattle.std.specs.Prelude.{◌≡◌, ◌*◌, length};
     ghost use Rattle.floor_port.specs.Packer.{PackerRecord};
 
     ghost Value = { PackerRecord };
@@ -74,7 +81,11 @@ impl<'k> Model for Packer<'k> {
       rows = packer.rows;
       pace = packer.pace;
       pending = packer.pending;
+      claims = packer.claims;
     } };
+
+    // there is a claim of each member for each name
+    ghost invariant = { λ packer. length packer.claims.kept ≡ 9 * length packer.rows.names };
 }
 
 /// Returns whether a datagram tells floors, by its kind.
@@ -149,6 +160,7 @@ impl<'k> Packer<'k> {
             rows: Rows::new(alloc, names, floors)?,
             pace: Pace::new(floors.len()),
             pending: Pending::new(node.me),
+            claims: Claims::new(alloc, floors.len())?,
         })
     }
 
@@ -185,7 +197,9 @@ impl<'k> Packer<'k> {
 
     /// Returns the head of a datagram that `member` sent to the node, and the floors that it tells, or None.
     fn told_by(&self, member: u8, bytes: &[u8]) -> Option<(Head, ArrayVec<NamedFloor, MAX_FLOORS>)>
-        ensures { option_map (λ told. (told.0, told.1.items)) result ≡ spec.told_by self.now member bytes.now }
+        ensures told { option_map (λ told. (told.0, told.1.items)) result ≡ spec.told_by self.now member bytes.now }
+        ensures member { IfSome result (λ _. (1 ≤ member) × (member ≤ 9)) }
+        ensures most { IfSome result (λ told. array_vec_len told.1 ≤ 20) }
     {
         if !tells_floors(bytes) {
             return None;
@@ -199,12 +213,15 @@ impl<'k> Packer<'k> {
     }
 
     /// Returns the datagram of the first of the floors told that are news, or None. The other news are left to hand in.
+    /// The floors are of the given rows.
     fn take_told(
         &mut self,
         head: Head,
         floors: &[NamedFloor],
+        rows: &[Option<u32>],
     ) -> Option<ArrayVec<u8, MAX_DATAGRAM_LEN>>
-        requires { length floors.now ≤ 20 }
+        requires few { length floors.now ≤ 20 }
+        requires rows { rows.now ≡ rows_of self.old.rows.names floors.now }
         ensures first { option_map (λ bytes. bytes.items) result
             ≡ spec.first_told self.old (Some (head, floors.now)) }
         ensures after { self.new ≡ spec.after_told self.old (Some (head, floors.now)) }
@@ -213,36 +230,101 @@ impl<'k> Packer<'k> {
             kind: Kind::Floor,
             ..head
         };
-        let mut news = self.rows.take_news(floors);
+        let mut news = self.rows.take_news(floors, rows);
         let first = news.pop_at(0)?;
         self.pending = Pending { head, floors: news };
         Some(write_datagram(self.key, head, &floor_body(first)))
     }
 
-    /// Notes that `member` was heard if it tells floors, and returns the datagram of the first of the news, or None.
-    /// The other news are left to hand in.
-    fn unpack(&mut self, member: u8, bytes: &[u8]) -> Option<ArrayVec<u8, MAX_DATAGRAM_LEN>>
-        ensures first { option_map (λ bytes. bytes.items) result
-            ≡ spec.first_told self.old (spec.told_by self.old member bytes.now) }
-        ensures after { let told = spec.told_by self.old member bytes.now in
-            self.new ≡ spec.after_told (spec.after_member self.old member told) told }
+    /// Returns the floor by which `member` falls, if it does by the floors of the given rows that it tells in a boot.
+    fn take_claims(
+        &mut self,
+        member: u8,
+        head: Head,
+        floors: &[NamedFloor],
+        rows: &[Option<u32>],
+    ) -> Option<NamedFloor>
+        requires member { (1 ≤ member) × (member ≤ 9) }
+        requires rows { rows.now ≡ rows_of self.old.rows.names floors.now }
+        ensures fall { result ≡ spec.fall_by self.old member (Some (head, floors.now)) }
+        ensures after { self.new ≡ spec.with_claims self.old member (Some (head, floors.now)) }
     {
-        let (head, floors) = self.told_by(member, bytes)?;
-        self.pace.note_heard(member, self.rows.len());
-        self.take_told(head, &floors)
+        self.claims
+            .take(member, head.boot, self.rows.names(), floors, rows)
     }
 
-    /// Takes a datagram of a member, and hands in the first of its news, or the same datagram if it has none.
-    pub(crate) fn take(&mut self, member: u8, len: usize, buffer: &mut [u8; 512]) -> Received
+    /// Takes the floors that `member` tells. Returns the bytes that are handed in for them, or None if they are the
+    /// same. Notes the fall of the member if it falls.
+    fn take_floors(
+        &mut self,
+        member: u8,
+        head: Head,
+        floors: &[NamedFloor],
+        falls: &mut Falls,
+    ) -> Option<ArrayVec<u8, MAX_DATAGRAM_LEN>>
+        requires few { length floors.now ≤ 20 }
+        requires member { (1 ≤ member) × (member ≤ 9) }
+        ensures bytes { let told = Some (head, floors.now) in option_map (λ bytes. bytes.items) result
+            ≡ spec.bytes_of self.old told (spec.fall_by self.old member told) }
+        ensures after { let told = Some (head, floors.now) in self.new
+            ≡ spec.after_held (spec.with_claims self.old member told) member told
+            (spec.fall_by self.old member told) }
+        ensures fell { falls.new ≡ with_fell falls.old
+            (fell_of member (spec.fall_by self.old member (Some (head, floors.now)))) }
+    {
+        let rows = self.rows.rows_of(floors);
+        if let Some(floor) = self.take_claims(member, head, floors, &rows) {
+            let name = floor.name.bytes();
+            falls.note(Some(Fell { member, name }));
+            self.pending.floors.clear();
+            return Some(ArrayVec::new());
+        }
+        self.pace.note_heard(member, self.rows.len());
+        self.take_told(head, floors, &rows)
+    }
+
+    /// Takes a datagram of `member`. Returns the bytes that are handed in for it, or None if they are the same. There
+    /// are none if a floor of the member fell. Notes the fall of the member if it falls.
+    fn unpack(
+        &mut self,
+        member: u8,
+        bytes: &[u8],
+        falls: &mut Falls,
+    ) -> Option<ArrayVec<u8, MAX_DATAGRAM_LEN>>
+        ensures bytes { option_map (λ bytes. bytes.items) result
+            ≡ spec.bytes_for self.old member (spec.told_by self.old member bytes.now) }
+        ensures after { self.new
+            ≡ spec.after_datagram self.old member (spec.told_by self.old member bytes.now) }
+        ensures fell { falls.new
+            ≡ with_fell falls.old (spec.fell_by self.old member (spec.told_by self.old member bytes.now)) }
+    {
+        if self.claims.is_fallen(member) {
+            return Some(ArrayVec::new());
+        }
+        let (head, floors) = self.told_by(member, bytes)?;
+        self.take_floors(member, head, &floors, falls)
+    }
+
+    /// Takes a datagram of a member, and hands in the first of its news, or the same datagram if it has none. It has no
+    /// bytes if a floor of the member fell. Notes the fall of the member if it falls.
+    pub(crate) fn take(
+        &mut self,
+        member: u8,
+        len: usize,
+        buffer: &mut [u8; 512],
+        falls: &mut Falls,
+    ) -> Received
         requires { len ≤ 512 }
         ensures within { IsWithin result }
         ensures datagram { result ≢ Quiet }
         ensures handed { event_of_receive result buffer.new
             ≡ spec.handed_in self.old (ReceivedEvent (Peer member) (take len buffer.old)) }
         ensures after { self.new ≡ spec.after_event self.old (ReceivedEvent (Peer member) (take len buffer.old)) }
+        ensures fell { falls.new
+            ≡ with_fell falls.old (spec.fell_at self.old (ReceivedEvent (Peer member) (take len buffer.old))) }
     {
         let sender = Sender::Peer(member);
-        let Some(bytes) = self.unpack(member, &buffer[..len]) else {
+        let Some(bytes) = self.unpack(member, &buffer[..len], falls) else {
             return Received::Datagram { sender, len };
         };
         let len = bytes.len();

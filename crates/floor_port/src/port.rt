@@ -1,19 +1,22 @@
 //! A node's port that tells floors in bulk.
 
 ghost use Rattle.std.specs.Option.{option_map};
-ghost use Rattle.std.specs.Prelude.{◌≡◌, ◌≤◌, ◌∷◌, [], ◌≢◌, Some, None, IfOk, IfSome, length};
+ghost use Rattle.std.specs.Prelude.{◌≡◌, ◌≤◌, ◌∷◌, [], ◌≢◌, Some, None, IfOk, IfSome, drop, length, slice_get};
 ghost use Rattle.datagram_port.specs.Port.{Grows, IsWithin, Offered, entries_of_poll, event_of_receive};
 ghost use Rattle.datagram_port.specs.declared.port.Received.TheVariants.{Quiet};
+ghost use Rattle.floor_port.specs.Claims.{with_fell};
 ghost use Rattle.floor_port.specs.Packer.{after_event, body_offers, handed_in, member_offer, new_packer, told_at};
 ghost use Rattle.floor_port.specs.Packer as spec;
 ghost use Rattle.floor_port.specs.Rows.{after_turn, next_floors};
-ghost use Rattle.floor_port.specs.Runs.{IsAfter, at_start, handed_events};
+ghost use Rattle.floor_port.specs.Runs.{AreUntold, IsAfter, at_start, fells_over, handed_events};
 ghost use Rattle.floor_port.specs.Setup.{telling_setup};
 
+use crate::falls::Falls;
 use crate::packer::{Membership, Packer};
 use crate::record::Record;
 use datagram_port::{Port, Received, Sender};
 use named_port::Names;
+use node_log::Fell;
 use otp_core::Next;
 use std::alloc::{AllocError, Global};
 use vote_wire::ClusterKey;
@@ -26,8 +29,10 @@ pub struct FloorPort<'k, P: Port + Drop> {
     /// The port below. Tests read what it was offered.
     pub(crate) port: P,
     packer: Packer<'k>,
+    falls: Falls,
     calls: Record,
     ghost after: { IsAfter (P.events port) packer (at_start packer calls.floors) calls.calls },
+    ghost untold: { AreUntold falls (fells_over (at_start packer calls.floors) calls.calls) },
 }
 
 /// Offers a body of floors to a member, unless it is the node itself.
@@ -79,9 +84,11 @@ fn tell<P: Port>(port: &mut P, packer: &mut Packer<'_>)
 }
 
 /// Takes a receive of the port below: unpacks the floors that it tells, and tells those that are due if it is quiet.
+/// Notes the fall of a member.
 fn take<P: Port>(
     port: &mut P,
     packer: &mut Packer<'_>,
+    falls: &mut Falls,
     received: Received,
     buffer: &mut [u8; 512],
 ) -> Received
@@ -91,13 +98,15 @@ fn take<P: Port>(
     ensures handed { event_of_receive result buffer.new
         ≡ handed_in packer.old (event_of_receive received buffer.old) }
     ensures after { packer.new ≡ after_event packer.old (event_of_receive received buffer.old) }
+    ensures fell { falls.new
+        ≡ with_fell falls.old (spec.fell_at packer.old (event_of_receive received buffer.old)) }
     ensures offers { Grows (P.events port.old) (P.events port.new)
         (told_at packer.old (event_of_receive received buffer.old)) }
     ensures stays { P.setup port.new ≡ P.setup port.old }
 {
     match received {
         Received::Datagram { sender, len } => match sender {
-            Sender::Peer(member) => packer.take(member, len, buffer),
+            Sender::Peer(member) => packer.take(member, len, buffer, falls),
             Sender::Client(_) => received,
         },
         Received::Quiet => {
@@ -127,7 +136,7 @@ impl<'k, P: Port + Drop> FloorPort<'k, P> {
         requires each { length floors.now ≡ length names.now }
         ensures { IfOk result (λ made. (made.port ≡ port)
             × (made.packer ≡ new_packer key.now names.now node.me node.boot node.members floors.now)
-            × (made.calls.floors ≡ floors.now) × (made.calls.calls ≡ [])) }
+            × (made.falls ≡ []) × (made.calls.floors ≡ floors.now) × (made.calls.calls ≡ [])) }
     {
         let packer = Packer::new(alloc, key, names, node, floors)?;
         let mut calls = Record::new();
@@ -135,8 +144,19 @@ impl<'k, P: Port + Drop> FloorPort<'k, P> {
         Ok(FloorPort {
             port,
             packer,
+            falls: Falls::new(),
             calls,
         })
+    }
+
+    /// Returns the first member whose floor of a token fell that no call returned before, or None.
+    pub fn take_fell(&mut self) -> Option<Fell>
+        ensures first { result ≡ slice_get self.old.falls 0 }
+        ensures rest { self.new.falls ≡ drop 1 self.old.falls }
+        ensures same { (self.new.port ≡ self.old.port) × (self.new.packer ≡ self.old.packer)
+            × (self.new.calls ≡ self.old.calls) }
+    {
+        self.falls.take_first()
     }
 
     /// Returns the port below.
@@ -174,7 +194,13 @@ impl<P: Port + Drop> Port for FloorPort<'_, P> {
         }
         let received = self.port.receive(buffer);
         self.calls.note_receive(&received, buffer.as_slice());
-        take(&mut self.port, &mut self.packer, received, buffer)
+        take(
+            &mut self.port,
+            &mut self.packer,
+            &mut self.falls,
+            received,
+            buffer,
+        )
     }
 
     fn poll(&mut self, buffer: &mut [u8; 512]) -> Option<Received> {
@@ -186,7 +212,13 @@ impl<P: Port + Drop> Port for FloorPort<'_, P> {
             return None;
         };
         self.calls.note_receive(&received, buffer.as_slice());
-        Some(take(&mut self.port, &mut self.packer, received, buffer))
+        Some(take(
+            &mut self.port,
+            &mut self.packer,
+            &mut self.falls,
+            received,
+            buffer,
+        ))
     }
 
     fn send(&mut self, to: Sender, bytes: &[u8]) -> bool {

@@ -84,21 +84,35 @@ fn raise(floors: &mut [u64], row: Option<u32>, next: u64) -> bool
     false
 }
 
-/// Raises the floors of the rows to those told. Returns the news.
+/// Returns the rows of the names of floors.
+fn rows_of(names: &Names, floors: &[NamedFloor]) -> ArrayVec<Option<u32>, MAX_FLOORS>
+    requires { length floors.now ≤ 20 }
+    ensures { result.items ≡ spec.rows_of names.now floors.now }
+{
+    let mut rows = ArrayVec::new();
+    for place in 0..floors.len() {
+        rows.push(row_of(names, floors[place].name));
+    }
+    rows
+}
+
+/// Raises the floors of the given rows to those told. Returns the news. The names are for the clauses.
 fn raise_all(
-    names: &Names,
     known: &mut [u64],
+    _names: &Names,
     floors: &[NamedFloor],
+    rows: &[Option<u32>],
 ) -> ArrayVec<NamedFloor, MAX_FLOORS>
     requires few { length floors.now ≤ 20 }
-    requires each { length known.old ≡ length names.now }
-    ensures news { result.items ≡ spec.news names.now known.old floors.now }
-    ensures known { known.new ≡ spec.after_floors names.now known.old floors.now }
+    requires each { length known.old ≡ length _names.now }
+    requires rows { rows.now ≡ spec.rows_of _names.now floors.now }
+    ensures news { result.items ≡ spec.news _names.now known.old floors.now }
+    ensures known { known.new ≡ spec.after_floors _names.now known.old floors.now }
 {
     let mut news = ArrayVec::new();
     for place in 0..floors.len() {
         let floor = floors[place];
-        if raise(known, row_of(names, floor.name), floor.next) {
+        if raise(known, rows[place], floor.next) {
             news.push(floor);
         }
     }
@@ -149,6 +163,13 @@ impl<'k> Rows<'k> {
         })
     }
 
+    /// Returns the names.
+    pub(crate) fn names(&self) -> &'k Names
+        ensures { result.now ≡ self.now.names }
+    {
+        self.names
+    }
+
     /// Returns the number of rows.
     pub(crate) fn len(&self) -> usize
         ensures { result ≡ length self.now.told }
@@ -181,13 +202,26 @@ impl<'k> Rows<'k> {
         raise(self.known.as_mut_slice(), row, floor.next);
     }
 
-    /// Notes floors that the node is told. Returns those that are news.
-    pub(crate) fn take_news(&mut self, floors: &[NamedFloor]) -> ArrayVec<NamedFloor, MAX_FLOORS>
+    /// Returns the rows of the names of floors.
+    pub(crate) fn rows_of(&self, floors: &[NamedFloor]) -> ArrayVec<Option<u32>, MAX_FLOORS>
         requires { length floors.now ≤ 20 }
+        ensures { result.items ≡ spec.rows_of self.now.names floors.now }
+    {
+        rows_of(self.names, floors)
+    }
+
+    /// Notes floors of the given rows that the node is told. Returns those that are news.
+    pub(crate) fn take_news(
+        &mut self,
+        floors: &[NamedFloor],
+        rows: &[Option<u32>],
+    ) -> ArrayVec<NamedFloor, MAX_FLOORS>
+        requires few { length floors.now ≤ 20 }
+        requires rows { rows.now ≡ spec.rows_of self.old.names floors.now }
         ensures news { result.items ≡ spec.news self.old.names self.old.known floors.now }
         ensures rows { self.new ≡ spec.after_news self.old floors.now }
     {
-        raise_all(self.names, self.known.as_mut_slice(), floors)
+        raise_all(self.known.as_mut_slice(), self.names, floors, rows)
     }
 
     /// Returns the floors that are told next, and goes on to the rows after them. They are those of the next 20 rows that

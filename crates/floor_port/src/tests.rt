@@ -8,6 +8,7 @@ use arrayvec::ArrayVec;
 use datagram_port::{Coming, ListPort, Port, PortEntry, Received, Sender};
 use named_port::Names;
 use named_wire::{Head, Kind, MAX_DATAGRAM_LEN, read_datagram, write_datagram};
+use node_log::Fell;
 use otp_core::{MAX_TOKENS, Next, Settings};
 use std::alloc::Global;
 use std::test::Fail;
@@ -336,5 +337,82 @@ fn rounds_are_fast_at_the_start(rt: HostRuntime) -> Result<(), Fail> {
     assert!(rt; offers_after(alloc, &[quiet, quiet])? == 6);
     assert!(rt; offers_after(alloc, &[quiet, heard, quiet, quiet])? == 10);
     assert!(rt; offers_after(alloc, &[quiet, heard, quiet, heard, quiet])? == 10);
+    Ok(())
+}
+
+/// Returns a datagram of a member for node 2, in a boot, that tells the same floor of the three rows.
+fn floors_in(alloc: Global, from: u8, boot: u64, next: u64) -> Result<Vec<u8>, Fail> {
+    let list = list(alloc)?;
+    let mut floors = [NamedFloor::default(); 3];
+    for place in 0..3 {
+        floors[place] = NamedFloor {
+            name: name_at(&list, place)?,
+            next,
+        };
+    }
+    let head = Head {
+        kind: Kind::Floors,
+        from,
+        to: 2,
+        boot,
+    };
+    let body = floors_body(&floors);
+    Ok(write_datagram::<MAX_DATAGRAM_LEN>(&key()?, head, &body).to_vec(alloc)?)
+}
+
+/// A lower floor in the same boot, or in an older one, is no fall.
+#[test]
+fn lower_floors_that_are_no_fall(rt: HostRuntime) -> Result<(), Fail> {
+    let alloc = rt.alloc();
+    let key = key()?;
+    let names = names(alloc, ROWS)?;
+    let floor = Next::new(5).ok_or("a floor")?;
+    let of_boot_4 = floors_in(alloc, 1, 4, 5)?;
+    let lower = floors_in(alloc, 1, 4, 4)?;
+    let older = floors_in(alloc, 1, 3, 3)?;
+    let comings = [from_1(&of_boot_4), from_1(&lower), from_1(&older)];
+    let mut port = port_over(alloc, &comings, &key, &names, &[floor; 3])?;
+    let mut buffer = [0; 512];
+    for _ in 0..3 {
+        assert!(rt; len_of(port.receive(&mut buffer))? == of_boot_4.len());
+        assert!(rt; port.take_fell().is_none());
+    }
+    Ok(())
+}
+
+/// A member whose floors fall in a later boot is silent from then on, and another one is heard.
+#[test]
+fn floors_that_fall(rt: HostRuntime) -> Result<(), Fail> {
+    let alloc = rt.alloc();
+    let key = key()?;
+    let names = names(alloc, ROWS)?;
+    let floor = Next::new(5).ok_or("a floor")?;
+    let of_boot_4 = floors_in(alloc, 1, 4, 5)?;
+    let fallen = floors_in(alloc, 1, 5, 4)?;
+    let of_3 = floors_in(alloc, 3, 2, 4)?;
+    let from_3 = Coming::Datagram {
+        sender: Sender::Peer(3),
+        bytes: &of_3,
+    };
+    let comings = [
+        from_1(&of_boot_4),
+        from_1(&fallen),
+        from_1(&of_boot_4),
+        from_1(b"OV"),
+        from_3,
+    ];
+    let mut port = port_over(alloc, &comings, &key, &names, &[floor; 3])?;
+    let mut buffer = [0; 512];
+    assert!(rt; len_of(port.receive(&mut buffer))? == of_boot_4.len());
+    for _ in 0..3 {
+        assert!(rt; len_of(port.receive(&mut buffer))? == 0);
+    }
+    let name = name_at(&list(alloc)?, 0)?.bytes();
+    assert!(rt; port.take_fell() == Some(Fell { member: 1, name }));
+    let heard = Received::Datagram {
+        sender: Sender::Peer(3),
+        len: of_3.len(),
+    };
+    assert!(rt; port.receive(&mut buffer) == heard && port.take_fell().is_none());
     Ok(())
 }

@@ -1,16 +1,20 @@
 //! The floor that a datagram of one token bears witness to.
 
-ghost use Rattle.std.specs.Prelude.{◌≡◌, ◌≤◌, length, IfSome};
+ghost use Rattle.std.specs.Prelude.{◌≡◌, ◌≤◌, Some, length, IfSome};
 ghost use Rattle.floor_port.specs.Witness as spec;
 
 use crate::body::{floor_with, name_at, number_at};
 use crate::floor::NamedFloor;
+use named_port::last_factor;
 use otp_core::{Factor, Next};
 
-/// The length of an Ask or a Grant, in bytes, and the place of the last factor of its span.
-const VOTE_LEN: usize = 79;
+/// The length of an Ask or a Grant, in bytes, the place of the first factor of its span, and that of the low byte of
+/// the last one.
+const VOTE_LEN: usize = 71;
 
-const VOTE_LAST: usize = 55;
+const VOTE_FIRST: usize = 46;
+
+const VOTE_LAST: usize = 54;
 
 /// The length of a Deny, in bytes, and the place of its floor.
 const DENY_LEN: usize = 71;
@@ -27,7 +31,7 @@ const HEAD_LEN: usize = 14;
 
 /// Returns the floor of a token whose factors up to `last` are used up, or None.
 fn floor_after(last: u64) -> Option<u64>
-    ensures { result ≡ spec.floor_after last }
+    ensures { result ≡ spec.floor_after (Some last) }
 {
     let last = Factor::new(last)?;
     Some(Next::after(last).value())
@@ -40,7 +44,8 @@ fn floor_told(bytes: &[u8]) -> Option<u64>
 {
     let len = bytes.len();
     if len == VOTE_LEN && (bytes[3] == 1 || bytes[3] == 2) {
-        return floor_after(number_at(bytes, VOTE_LAST));
+        let last = last_factor(number_at(bytes, VOTE_FIRST), bytes[VOTE_LAST])?;
+        return floor_after(last);
     }
     if len == DENY_LEN && bytes[3] == 3 {
         return Some(number_at(bytes, DENY_NEXT));

@@ -1,15 +1,16 @@
-ghost use Rattle.std.specs.Prelude.{◌≡◌, ◌^◌, ◌+◌, [], ◌∷◌, ◌++◌, Some, None, drop, false, map, replicate, slice_set, take, true};
+ghost use Rattle.std.specs.Prelude.{◌≡◌, ◌^◌, ◌+◌, [], ◌∷◌, ◌++◌, Some, None, false, map, replicate, slice_set, take, true};
 ghost use Rattle.datagram_port.specs.Port.{Faulted, Offered, Quiet, Received};
 ghost use Rattle.datagram_port.specs.declared.port.Sender.TheVariants.{Client, Peer};
 ghost use Rattle.named_wire.specs.declared.head.Kind.TheVariants.{Ask, Deny, Floor, Floors, Grant};
 ghost use Rattle.vote_wire.specs.Examples.{eight_bytes};
-ghost use Rattle.floor_port.specs.Examples.{ask_upto, bare_setup, body_of_two, book, deny_of_9, floor_of, fresh_rows, from_1, head_with, left_of_1, name_with, node_2, node_2_over, node_2_with, one_floor, pace_with, rows_with, two_floors, zeros};
+ghost use Rattle.floor_port.specs.Examples.{ask_of, bare_setup, body_of_two, book, claim, claims_of_1, deny_of_9, equal_floor, fallen_1, fallen_node, fell_1, floor_of, fresh_rows, from_1, head_with, left_of_1, lower_floor, name_with, node_2, node_2_over, node_2_told, node_2_with, one_floor, pace_with, rows_with, told_in_4, two_floors, zeros};
+ghost use Rattle.floor_port.specs.Claims.{claims_after, falls, fell_of, is_below, is_fallen, new_claims, no_claim, place_of, with_fell};
 ghost use Rattle.floor_port.specs.Floors.{IsBodyOf, floors_at, floors_body, is_body, told_in};
 ghost use Rattle.floor_port.specs.Pace.{after_heard, after_quiet, due, new_pace, round_of};
-ghost use Rattle.floor_port.specs.Packer.{after_event, after_next, after_offer, after_told, body_of, body_offers, first_told, floors_datagram, handed_in, new_packer, next_bytes, told_at, told_by, turn_offers};
-ghost use Rattle.floor_port.specs.Promises.{HandsIn, IsNotFresh, IsOwnFloor, TellsFloors};
-ghost use Rattle.floor_port.specs.Rows.{after_floor, after_floors, after_news, after_telling, after_turn, after_witness, is_fresh, is_news, new_rows, news, next_floors, turns_of, with_fresh};
-ghost use Rattle.floor_port.specs.Runs.{Came, IsAfter, Left, Offer, at_start, below_events, handed_events, may_call, may_make};
+ghost use Rattle.floor_port.specs.Packer.{after_event, after_next, after_offer, after_told, body_of, body_offers, fell_at, first_told, floors_datagram, handed_in, new_packer, next_bytes, told_at, told_by, turn_offers};
+ghost use Rattle.floor_port.specs.Promises.{HandsIn, IsNotFresh, IsOwnFloor, TellsFloors, WentBack};
+ghost use Rattle.floor_port.specs.Rows.{after_floor, after_floors, after_news, after_telling, after_turn, after_witness, is_fresh, is_news, new_rows, news, next_floors, rows_of, turns_of, with_fresh};
+ghost use Rattle.floor_port.specs.Runs.{AreUntold, Came, IsAfter, Left, Offer, at_start, below_events, fell_before, fells_over, handed_events, may_call, may_make};
 ghost use Rattle.floor_port.specs.Setup.{telling_setup};
 ghost use Rattle.floor_port.specs.Witness.{witness_of};
 
@@ -36,16 +37,18 @@ pub fn bodies_are_worked()
 
 /// Worked cases. What datagrams of one token bear witness to.
 pub fn witnesses_are_worked()
-    ensures ask { witness_of (ask_upto (eight_bytes 1)) ≡ Some (floor_of 0xaa 2) }
-    ensures grant { witness_of (slice_set (ask_upto (eight_bytes 1)) 3 2) ≡ Some (floor_of 0xaa 2) }
+    ensures ask { map (λ low. witness_of (ask_of (eight_bytes 1) low)) (0 ∷ 1 ∷ 2 ∷ 3 ∷ [])
+        ≡ None ∷ Some (floor_of 0xaa 2) ∷ Some (floor_of 0xaa 3) ∷ None ∷ [] }
+    ensures over_255 { witness_of (ask_of (eight_bytes 255) 0) ≡ Some (floor_of 0xaa 257) }
+    ensures grant { witness_of (slice_set (ask_of (eight_bytes 1) 1) 3 2) ≡ Some (floor_of 0xaa 2) }
     ensures deny { witness_of deny_of_9 ≡ Some (floor_of 0xaa 9) }
     ensures floor { witness_of one_floor ≡ Some (floor_of 0xaa 6) }
-    ensures last { witness_of (ask_upto (0x3f ∷ replicate 7 0xff)) ≡ Some (floor_of 0xaa (2 ^ 62)) }
-    ensures no_factor { witness_of (ask_upto (0x40 ∷ replicate 7 0)) ≡ None }
-    ensures kinds { map (λ kind. witness_of (slice_set (ask_upto (eight_bytes 1)) 3 kind)) (0 ∷ 3 ∷ 4 ∷ 5 ∷ [])
-        ≡ replicate 4 None }
+    ensures last { witness_of (ask_of (0x3f ∷ replicate 7 0xff) 0xff) ≡ Some (floor_of 0xaa (2 ^ 62)) }
+    ensures no_factor { witness_of (ask_of (0x3f ∷ replicate 7 0xff) 0) ≡ None }
+    ensures kinds { map (λ kind. witness_of (slice_set (ask_of (eight_bytes 1) 1) 3 kind)) (0 ∷ 1 ∷ 4 ∷ 5 ∷ [])
+        ≡ None ∷ Some (floor_of 0xaa 2) ∷ None ∷ None ∷ [] }
     ensures shorter { map witness_of
-        (take 53 one_floor ∷ take 70 deny_of_9 ∷ take 78 (ask_upto (eight_bytes 1)) ∷ [] ∷ [])
+        (take 53 one_floor ∷ take 70 deny_of_9 ∷ take 70 (ask_of (eight_bytes 1) 1) ∷ [] ∷ [])
         ≡ replicate 4 None }
     ensures floors { witness_of two_floors ≡ None }
 {}
@@ -67,6 +70,8 @@ pub fn rows_are_worked()
     ensures greater_after { news book (replicate 3 5) (floor_of 0xaa 6 ∷ floor_of 0xaa 7 ∷ [])
         ≡ floor_of 0xaa 6 ∷ floor_of 0xaa 7 ∷ [] }
     ensures smaller_after { news book (replicate 3 5) (floor_of 0xaa 7 ∷ floor_of 0xaa 6 ∷ []) ≡ floor_of 0xaa 7 ∷ [] }
+    ensures rows { rows_of book (floor_of 0xbb 6 ∷ floor_of 0xdd 6 ∷ floor_of 0xaa 6 ∷ [])
+        ≡ Some 1 ∷ None ∷ Some 0 ∷ [] }
     ensures next { next_floors (rows_with (5 ∷ 6 ∷ 7 ∷ []) (8 ∷ 8 ∷ 8 ∷ []) 0)
         ≡ floor_of 0xaa 5 ∷ floor_of 0xbb 6 ∷ floor_of 0xcc 7 ∷ [] }
     ensures next_from { next_floors (rows_with (5 ∷ 6 ∷ 7 ∷ []) (8 ∷ 8 ∷ 8 ∷ []) 1)
@@ -125,6 +130,93 @@ pub fn paces_are_worked()
     ensures due_in_a_round { map (due (pace_with 0 1)) (0 ∷ 1 ∷ 11 ∷ []) ≡ 0 ∷ 1 ∷ 10 ∷ [] }
 {}
 
+/// Worked cases. The claims of member 1, and the floors by which it falls.
+pub fn falls_are_worked()
+    ensures new { new_claims 3 ≡ claims_of_1 0 no_claim no_claim no_claim }
+    ensures places { map (λ row. map (place_of row) (1 ∷ 9 ∷ [])) (0 ∷ 2 ∷ [])
+        ≡ (0 ∷ 8 ∷ []) ∷ (18 ∷ 26 ∷ []) ∷ [] }
+    ensures below { map (λ boot. map (is_below (claim 4 6) boot) (5 ∷ 6 ∷ [])) (3 ∷ 4 ∷ 5 ∷ [])
+        ≡ (false ∷ false ∷ []) ∷ (false ∷ false ∷ []) ∷ (true ∷ false ∷ []) ∷ [] }
+    ensures older_boot { falls told_in_4 book 1 3 (floor_of 0xaa 5 ∷ []) ≡ None }
+    ensures older_boot_changes_nothing { claims_after told_in_4 book 1 3 (floor_of 0xaa 9 ∷ []) ≡ told_in_4 }
+    ensures same_boot_lower { falls told_in_4 book 1 4 (floor_of 0xaa 5 ∷ []) ≡ None }
+    ensures same_boot_keeps_the_greater { map (λ next. claims_after told_in_4 book 1 4 (floor_of 0xaa next ∷ []))
+        (5 ∷ 8 ∷ [])
+        ≡ told_in_4 ∷ claims_of_1 4 (claim 4 8) no_claim (claim 4 9) ∷ [] }
+    ensures later_boot_lower { falls told_in_4 book 1 5 (floor_of 0xaa 5 ∷ []) ≡ Some (floor_of 0xaa 5) }
+    ensures later_boot_fallen { claims_after told_in_4 book 1 5 (floor_of 0xaa 5 ∷ [])
+        ≡ fallen_1 5 (claim 4 6) no_claim (claim 4 9) }
+    ensures later_boot_higher { map (λ next. falls told_in_4 book 1 5 (floor_of 0xaa next ∷ [])) (6 ∷ 7 ∷ [])
+        ≡ replicate 2 None }
+    ensures later_boot_kept { map (λ next. claims_after told_in_4 book 1 5 (floor_of 0xaa next ∷ [])) (6 ∷ 7 ∷ [])
+        ≡ claims_of_1 5 (claim 5 6) no_claim (claim 4 9) ∷ claims_of_1 5 (claim 5 7) no_claim (claim 4 9) ∷ [] }
+    ensures first_told { claims_after told_in_4 book 1 5 (floor_of 0xbb 3 ∷ [])
+        ≡ claims_of_1 5 (claim 4 6) (claim 5 3) (claim 4 9) }
+    ensures unknown_name { falls told_in_4 book 1 5 (floor_of 0xdd 0 ∷ []) ≡ None }
+    ensures unknown_name_kept { claims_after told_in_4 book 1 5 (floor_of 0xdd 0 ∷ [])
+        ≡ claims_of_1 5 (claim 4 6) no_claim (claim 4 9) }
+    ensures second_row { falls told_in_4 book 1 5 (floor_of 0xaa 7 ∷ floor_of 0xcc 8 ∷ []) ≡ Some (floor_of 0xcc 8) }
+    ensures second_row_fallen { claims_after told_in_4 book 1 5 (floor_of 0xaa 7 ∷ floor_of 0xcc 8 ∷ [])
+        ≡ fallen_1 5 (claim 5 7) no_claim (claim 4 9) }
+    ensures first_of_two { falls told_in_4 book 1 5 (floor_of 0xaa 5 ∷ floor_of 0xcc 8 ∷ [])
+        ≡ Some (floor_of 0xaa 5) }
+    ensures twice_in_one_boot { falls told_in_4 book 1 5 (floor_of 0xaa 7 ∷ floor_of 0xaa 5 ∷ []) ≡ None }
+    ensures another_member { falls told_in_4 book 3 5 (floor_of 0xaa 5 ∷ []) ≡ None }
+    ensures others { map (is_fallen (fallen_1 5 no_claim no_claim no_claim)) (0 ∷ 1 ∷ 2 ∷ 9 ∷ 10 ∷ [])
+        ≡ false ∷ true ∷ false ∷ false ∷ false ∷ [] }
+    ensures another_fallen { is_fallen (claims_after (fallen_1 5 (claim 4 6) no_claim no_claim) book 3 5
+        (floor_of 0xaa 5 ∷ [])) 1 ≡ true }
+    ensures fall { map (fell_of 1) (None ∷ Some (floor_of 0xaa 5) ∷ []) ≡ None ∷ Some (fell_1 0xaa) ∷ [] }
+    ensures noted { map (with_fell (fell_1 1 ∷ [])) (None ∷ Some (fell_1 2) ∷ [])
+        ≡ (fell_1 1 ∷ []) ∷ (fell_1 1 ∷ fell_1 2 ∷ []) ∷ [] }
+    ensures ten { map (λ count. with_fell (replicate count (fell_1 1)) (Some (fell_1 2))) (9 ∷ 10 ∷ [])
+        ≡ (replicate 9 (fell_1 1) ++ fell_1 2 ∷ []) ∷ replicate 10 (fell_1 1) ∷ [] }
+{}
+
+/// Worked cases. What is handed in of a member whose floor falls or fell, and what changes.
+pub fn silences_are_worked()
+    ensures falls { handed_in (node_2_told (claims_of_1 3 (claim 3 7) no_claim no_claim)) (from_1 two_floors)
+        ≡ from_1 [] }
+    ensures fallen { after_event (node_2_told (claims_of_1 3 (claim 3 7) no_claim no_claim)) (from_1 two_floors)
+        ≡ node_2_told (fallen_1 4 (claim 3 7) no_claim no_claim) }
+    ensures fell { fell_at (node_2_told (claims_of_1 3 (claim 3 7) no_claim no_claim)) (from_1 two_floors)
+        ≡ Some (fell_1 0xaa) }
+    ensures second_falls { handed_in (node_2_told (claims_of_1 3 no_claim no_claim (claim 3 10))) (from_1 two_floors)
+        ≡ from_1 [] }
+    ensures second_fallen { after_event (node_2_told (claims_of_1 3 no_claim no_claim (claim 3 10))) (from_1 two_floors)
+        ≡ node_2_told (fallen_1 4 (claim 4 6) no_claim (claim 3 10)) }
+    ensures second_fell { fell_at (node_2_told (claims_of_1 3 no_claim no_claim (claim 3 10))) (from_1 two_floors)
+        ≡ Some (fell_1 0xcc) }
+    ensures none_is_left { (after_event (record (node_2_told (claims_of_1 3 (claim 3 7) no_claim no_claim)) {
+      pending = left_of_1 (floor_of 0xcc 9 ∷ []);
+    }) (from_1 two_floors)).pending ≡ left_of_1 [] }
+    ensures same_boot { handed_in (node_2_told (claims_of_1 4 (claim 4 7) no_claim no_claim)) (from_1 two_floors)
+        ≡ from_1 one_floor }
+    ensures older_boot { handed_in (node_2_told (claims_of_1 5 (claim 3 7) no_claim no_claim)) (from_1 two_floors)
+        ≡ from_1 one_floor }
+    ensures no_fall { map (λ claims. fell_at (node_2_told claims) (from_1 two_floors))
+        (new_claims 3 ∷ claims_of_1 4 (claim 4 7) no_claim no_claim ∷ claims_of_1 5 (claim 3 7) no_claim no_claim ∷ [])
+        ≡ replicate 3 None }
+    ensures silent { map (handed_in fallen_node) (from_1 two_floors ∷ from_1 deny_of_9 ∷ from_1 [] ∷ [])
+        ≡ replicate 3 (from_1 []) }
+    ensures unchanged { map (after_event fallen_node) (from_1 two_floors ∷ from_1 deny_of_9 ∷ [])
+        ≡ replicate 2 fallen_node }
+    ensures told_once { map (fell_at fallen_node) (from_1 two_floors ∷ from_1 deny_of_9 ∷ []) ≡ replicate 2 None }
+    ensures another_member { handed_in fallen_node (Received (Peer 3) deny_of_9) ≡ Received (Peer 3) deny_of_9 }
+    ensures others { map (fell_at node_2)
+        (Received (Client 1) two_floors ∷ Quiet ∷ Faulted ∷ Offered (Peer 1) two_floors ∷ [])
+        ≡ replicate 4 None }
+    ensures lower { told_by node_2 1 lower_floor ≡ Some (record (head_with Floor) { boot = 5 }, floor_of 0xaa 5 ∷ []) }
+    ensures lower_falls { handed_events node_2
+        (Came (from_1 one_floor) ∷ Came (from_1 lower_floor) ∷ Came (from_1 one_floor) ∷ [])
+        ≡ from_1 one_floor ∷ from_1 [] ∷ from_1 [] ∷ [] }
+    ensures fells { fells_over node_2
+        (Came (from_1 one_floor) ∷ Came (from_1 lower_floor) ∷ Came (from_1 lower_floor) ∷ Left
+        ∷ Offer (Peer 1) [] ∷ [])
+        ≡ fell_1 0xaa ∷ [] }
+    ensures two_fell { fell_before (Some (fell_1 1)) (fell_1 2 ∷ []) ≡ fell_1 1 ∷ fell_1 2 ∷ [] }
+{}
+
 /// Worked cases. The floors of a datagram of node 1, handed in one by one.
 pub fn packers_are_worked()
     ensures told { told_by node_2 1 two_floors ≡ Some (head_with Floors, floor_of 0xaa 6 ∷ floor_of 0xcc 9 ∷ []) }
@@ -136,12 +228,14 @@ pub fn packers_are_worked()
       rows = rows_with (replicate 3 5) (6 ∷ 5 ∷ 9 ∷ []) 0;
       pace = pace_with 25 1;
       pending = left_of_1 (floor_of 0xcc 9 ∷ []);
+      claims = claims_of_1 4 (claim 4 6) no_claim (claim 4 9);
     } }
     ensures single { handed_in node_2 (from_1 one_floor) ≡ from_1 one_floor }
     ensures single_left { after_event node_2 (from_1 one_floor) ≡ record node_2 {
       rows = rows_with (replicate 3 5) (6 ∷ 5 ∷ 5 ∷ []) 0;
       pace = pace_with 25 1;
       pending = left_of_1 [];
+      claims = claims_of_1 4 (claim 4 6) no_claim no_claim;
     } }
     ensures second { handed_in (record node_2 { rows = rows_with [] (6 ∷ 5 ∷ 5 ∷ []) 0 }) (from_1 two_floors)
         ≡ from_1 (next_bytes (node_2_with (floor_of 0xcc 9))) }
@@ -223,6 +317,9 @@ pub fn calls_can_be_broken()
     ensures unrecorded { IsAfter (Some []) node_2 node_2 (Came Faulted ∷ []) → ⊥ }
     ensures second_unrecorded { IsAfter (Some (Faulted ∷ [])) node_2 node_2 (Came Faulted ∷ Came (from_1 []) ∷ []) → ⊥ }
     ensures another_packer { IsAfter (Some (Faulted ∷ [])) (record node_2 { me = 3 }) node_2 (Came Faulted ∷ []) → ⊥ }
+    ensures untold { AreUntold (fell_1 2 ∷ []) (fell_1 1 ∷ fell_1 2 ∷ []) }
+    ensures first_untold { AreUntold (fell_1 1 ∷ []) (fell_1 1 ∷ fell_1 2 ∷ []) → ⊥ }
+    ensures never_fell { AreUntold (fell_1 2 ∷ []) [] → ⊥ }
     ensures left { may_make (node_2_with (floor_of 0xcc 9)) (Left ∷ Came Quiet ∷ []) ≡ true }
     ensures nothing_left { may_call node_2 Left ≡ false }
     ensures second_not_left { may_make (node_2_with (floor_of 0xcc 9)) (Left ∷ Left ∷ []) ≡ false }
@@ -235,6 +332,15 @@ pub fn promises_can_be_broken()
     ensures received { HandsIn zeros 2 (Came Quiet ∷ Came Faulted ∷ []) Faulted }
     ensures offered { HandsIn zeros 2 (Offer (Peer 1) [] ∷ []) (Offered (Peer 1) []) }
     ensures told { HandsIn zeros 2 (Came (from_1 two_floors) ∷ []) (from_1 one_floor) }
+    ensures silenced { HandsIn zeros 2 (Came (from_1 one_floor) ∷ Came (from_1 lower_floor) ∷ []) (from_1 []) }
+    ensures not_lower { HandsIn zeros 2 (Came (from_1 one_floor) ∷ []) (from_1 []) → ⊥ }
+    ensures went_back { WentBack zeros 2 (Came (from_1 one_floor) ∷ Came (from_1 lower_floor) ∷ []) 1 (name_with 0xaa) }
+    ensures equal_floors { WentBack zeros 2 (Came (from_1 equal_floor) ∷ Came (from_1 lower_floor) ∷ []) 1
+        (name_with 0xaa) → ⊥ }
+    ensures another_member { WentBack zeros 2 (Came (from_1 one_floor) ∷ Came (from_1 lower_floor) ∷ []) 3
+        (name_with 0xaa) → ⊥ }
+    ensures another_token { WentBack zeros 2 (Came (from_1 one_floor) ∷ Came (from_1 lower_floor) ∷ []) 1
+        (name_with 0xcc) → ⊥ }
     ensures not_received { HandsIn zeros 2 [] (from_1 one_floor) → ⊥ }
     ensures not_told { HandsIn zeros 2 (Came (from_1 deny_of_9) ∷ []) (from_1 one_floor) → ⊥ }
     ensures from_another { HandsIn zeros 2 (Came (from_1 one_floor) ∷ []) (Received (Peer 3) one_floor) → ⊥ }

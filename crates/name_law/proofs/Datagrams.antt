@@ -1,9 +1,9 @@
 -- What a translator offers for an envelope, and what another one hands in.
-use Rattle.std.proofs.Common.{◌≡◌, ℕ, ◌+◌, ◌^◌, ◌<◌, ◌≤◌, Bool, true, false, cond, List, [], ◌∷◌, ◌++◌, length, take, drop, get_or, eqb, ltb, Option, Some, None, refl, sym, ap, subst, ◌∙◌, arith, length-append}
+use Rattle.std.proofs.Common.{◌≡◌, ℕ, ◌-◌, ◌^◌, ◌<◌, ◌≤◌, Bool, true, false, cond, List, [], ◌∷◌, ◌++◌, length, take, drop, get_or, eqb, ltb, Option, Some, None, refl, sym, ap, subst, ◌∙◌, arith, length-append}
 use Rattle.std.specs.Prelude.{◌&&◌, slice_get}
 use Rattle.std.specs.Option.{option_map}
-use Rattle.std.proofs.lemmas.Bool.{and_parts, eq-eqb, eqb-true, le-leb, le-ltb, lt-ltb, ne_eqb, not_from_false}
-use Rattle.std.proofs.lemmas.List.{drop_at, take-append-le, take_all}
+use Rattle.std.proofs.lemmas.Bool.{and_parts, cond_both, eq-eqb, eqb-true, le-leb, le-ltb, lt-ltb, ne_eqb, not_from_false}
+use Rattle.std.proofs.lemmas.List.{get_or-take, length-take}
 use Rattle.std.proofs.lemmas.Option.{none-some, same_Some}
 use Rattle.datagram_port.specs.Port.{PortEvent, Offered, Received}
 use Rattle.datagram_port.specs.declared.port.Sender.TheVariants.{Peer}
@@ -12,23 +12,26 @@ use Rattle.vote_core.specs.Numbers.{named_message}
 use Rattle.vote_core.specs.Schedule.{Envelope}
 use Rattle.vote_core.specs.declared.message.Message.{Message}
 use Rattle.vote_core.specs.declared.message.Message.TheVariants.{Ask, Grant, Deny, Floor}
-use Rattle.vote_wire.specs.Body.{HasEnds, HasSpelling}
+use Rattle.vote_wire.specs.Body.{HasEnds, HasSpelling, SaysMessage}
 use Rattle.vote_wire.specs.Datagram as old
 use Rattle.vote_wire.specs.Key.{bare, tag_of}
 use Rattle.vote_wire.proofs.TagLemmas.{again_law, datagram_takes}
 use Rattle.named_wire.specs.Datagram.{datagram_at}
-use Rattle.named_wire.specs.Head.{IsHead}
+use Rattle.named_wire.specs.Head.{IsHead, kind_byte}
 use Rattle.named_wire.specs.declared.head.Head.{Head}
+use Rattle.named_wire.specs.declared.head.Kind.{Kind}
+use Rattle.named_wire.specs.declared.head.Kind.TheVariants.{Ask as AskKind, Grant as GrantKind, Deny as DenyKind, Floor as FloorKind, Floors as FloorsKind}
 use Rattle.named_wire.proofs.TagLemmas.{again}
 use Rattle.named_port.specs.Names.{number_of as place_of}
 use Rattle.named_port.specs.Translator.{TranslatorRecord, between, bytes_or_none, handed_in, is_older, offer_to, offered, translated}
-use Rattle.named_port.specs.Wire.{fields_of, is_of_one_token, kind_of_message, named_bytes, numbered_bytes, numbered_of, token_of}
-use Rattle.named_port.proofs.WireLemmas.{named_law}
+use Rattle.named_port.specs.Wire.{fields_of, is_named, kind_of_message, named_bytes, numbered_bytes, numbered_front, numbered_of, packed_of, token_of, unpacked, with_number}
+use Rattle.named_port.proofs.WireLemmas.{message_unpacked, named_law, numbered_with, one_kind, packed_fits}
 use Rattle.oath_node.specs.Hosted.{envelope_at}
 use Rattle.seat_law.specs.Seats.{seat_name}
 use Rattle.seat_law.proofs.Relation.{number_there}
-use Rattle.book_law.specs.Lives.{Sealed, Terms, named_envelope}
+use Rattle.book_law.specs.Lives.{IsOfVote, Sealed, Terms, named_envelope}
 use Rattle.name_law.specs.Datagrams.{AreNames, IsReadable, IsSpelled, IsTranslatorOf, bytes_for, handed_bytes, name_at, named_datagram, numbered_envelope, own_datagram, own_names, own_number}
+use Rattle.name_law.specs.Unforged.{IsKindOfVote, IsVoteFor, TellsVote}
 use Rattle.name_law.proofs.Names.{bytes_named, ends_of, named_numbered, number_is, own_message, own_name, spelled_with, token_named, whole_name}
 
 -- ---- offers
@@ -60,7 +63,7 @@ both true true h k = refl
 both false b h k = absurd cc
 both true false h k = absurd cc
 
-abbrev head_of : ℕ → Envelope → Head
+abbrev pub head_of : ℕ → Envelope → Head
 head_of boot envelope = record { kind = kind_of_message envelope.message; from = envelope.sender; to = envelope.receiver; boot = boot }
 
 is_head : (boot number : ℕ) (envelope : Envelope) → HasEnds envelope.sender envelope.receiver number → boot < 2 ^ 64 → IsHead (head_of boot envelope)
@@ -70,37 +73,21 @@ is_head boot number envelope h below = record {
   boot_below = below;
 }
 
-fields_fit : (message : Message) → (8 ≤ length (fields_of message)) × (length (fields_of message) ≤ 33)
-fields_fit (Ask proposal token span) = (omega arith, omega arith)
-fields_fit (Grant proposal token span) = (omega arith, omega arith)
-fields_fit (Deny proposal token next) = (omega arith, omega arith)
-fields_fit (Floor token next) = (omega arith, omega arith)
+-- what is unpacked doesn't depend on the number of the token
+spelled_unpacked : (from to : ℕ) (message : Message) → HasSpelling from to (numbered_message 0 message) → unpacked (kind_of_message message) from to (packed_of message) ≡ Some (fields_of message)
+spelled_unpacked from to (Ask proposal token span) h = message_unpacked from to (Ask proposal 0 span) h
+spelled_unpacked from to (Grant proposal token span) h = message_unpacked from to (Grant proposal 0 span) h
+spelled_unpacked from to (Deny proposal token next) h = message_unpacked from to (Deny proposal 0 next) h
+spelled_unpacked from to (Floor token next) h = message_unpacked from to (Floor 0 next) h
 
-reads_named : (names : List (List ℕ)) (boot : ℕ) (sealed : Sealed) → AreNames names → token_of sealed.envelope.message < length names → IsSpelled sealed.envelope → boot < 2 ^ 64
-    → datagram_at sealed.key (named_datagram names boot sealed) ≡ Some (head_of boot sealed.envelope, name_at names (token_of sealed.envelope.message) ++ fields_of sealed.envelope.message)
+pub reads_named : (names : List (List ℕ)) (boot : ℕ) (sealed : Sealed) → AreNames names → token_of sealed.envelope.message < length names → IsSpelled sealed.envelope → boot < 2 ^ 64
+    → datagram_at sealed.key (named_datagram names boot sealed) ≡ Some (head_of boot sealed.envelope, name_at names (token_of sealed.envelope.message) ++ packed_of sealed.envelope.message)
 reads_named names boot sealed are low spelled below =
     let envelope = sealed.envelope in
     let name = name_at names (token_of envelope.message) in
-    let fields = fields_of envelope.message in
-    let fits : length (name ++ fields) ≤ 481 = omega (arith, length-append name fields, whole_name names (token_of envelope.message) are low, (fields_fit envelope.message).1) in
+    let fields = packed_of envelope.message in
+    let fits : length (name ++ fields) ≤ 481 = omega (arith, length-append name fields, whole_name names (token_of envelope.message) are low, (packed_fits envelope.message).1) in
     again sealed.key (name ++ fields) (head_of boot envelope) (is_head boot 0 envelope (ends_of envelope.sender envelope.receiver 0 envelope.message spelled) below) fits
-
-numbered_with : (names : List (List ℕ)) (head : Head) (name fields : List ℕ) (number : Option ℕ) → is_of_one_token head.kind ≡ true → length name ≡ 16 → 8 ≤ length fields → length fields ≤ 33
-    → place_of names name ≡ number → numbered_of names head (name ++ fields) ≡ numbered_bytes head fields number
-unfolding numbered_of
-numbered_with names head name fields number one len least most at =
-    let all : length (name ++ fields) ≡ 16 + length fields = omega (arith, length-append name fields, len) in
-    let short : ltb (length (name ++ fields)) 24 ≡ false = le-ltb _ _ (omega (arith, all, least)) in
-    let long : ltb 49 (length (name ++ fields)) ≡ false = le-ltb _ _ (omega (arith, all, most)) in
-    let front : take 16 (name ++ fields) ≡ name = take-append-le 16 name fields (omega (arith, len)) ∙ take_all 16 name (omega (arith, len)) in
-    let rest : drop 16 (name ++ fields) ≡ fields = drop_at name fields 16 len in
-    rw (one, short, long, front, rest, at) refl
-
-one_kind : (message : Message) → is_of_one_token (kind_of_message message) ≡ true
-one_kind (Ask proposal token span) = refl
-one_kind (Grant proposal token span) = refl
-one_kind (Deny proposal token next) = refl
-one_kind (Floor token next) = refl
 
 numbered_so : (boot from to number : ℕ) (message : Message)
     → numbered_bytes (record { kind = kind_of_message message; from = from; to = to; boot = boot }) (fields_of message) (Some number) ≡ Some (old.datagram_bytes bare from to (numbered_message number message))
@@ -124,13 +111,13 @@ handed_is names node terms t boot from sealed is can =
     let token = token_of envelope.message in
     let bytes = named_datagram names boot sealed in
     let head = head_of boot envelope in
-    let body = name_at names token ++ fields_of envelope.message in
+    let body = name_at names token ++ packed_of envelope.message in
     let reads : datagram_at t.key bytes ≡ Some (head, body) =
     ap (λ k. datagram_at k bytes) (is.key ∙ sym can.key) ∙ reads_named names boot sealed can.are_names can.token can.spelled can.boot_below in
     let numbered : numbered_of t.names head body ≡ numbered_bytes head (fields_of envelope.message) (own_number terms.seats token) =
     ap (λ l. numbered_of l head body) is.names_are
-    ∙ numbered_with (own_names names terms.seats) head (name_at names token) (fields_of envelope.message) (own_number terms.seats token) (one_kind envelope.message)
-    (whole_name names token can.are_names can.token) (fields_fit envelope.message).0 (fields_fit envelope.message).1
+    ∙ numbered_with (own_names names terms.seats) head (name_at names token) (packed_of envelope.message) (fields_of envelope.message) (own_number terms.seats token) (one_kind envelope.message)
+    (whole_name names token can.are_names can.token) (packed_fits envelope.message).0 (spelled_unpacked envelope.sender envelope.receiver envelope.message can.spelled)
     (number_is names terms.seats token can.are_names can.seats can.token) in
     let last : bytes_or_none (numbered_of t.names head body) ≡ bytes_for envelope (own_number terms.seats token) =
     ap bytes_or_none numbered ∙ or_none boot envelope (own_number terms.seats token) in
@@ -222,3 +209,91 @@ read_spelled bytes envelope reads = go (old.datagram_at bare bytes) refl reads
     go (Some read) is e =
         let one : Envelope = record { sender = read.0; receiver = read.1; message = read.2 } in
         subst (λ (x : Envelope). HasSpelling x.sender x.receiver x.message) (same_Some one envelope e) (datagram_takes bare bytes read is).1.0
+
+-- ---- votes
+
+-- the kind of a message that was read is in a byte
+byte_kept : (bytes : List ℕ) → 18 ≤ length (old.body_of bytes) → get_or (old.body_of bytes) 3 0 ≡ get_or bytes 3 0
+byte_kept bytes long = let size = length-take (length bytes - 16) bytes in get_or-take (length bytes - 16) bytes 3 0 (omega (arith, size, long))
+
+vote_byte : (bytes : List ℕ) (from to : ℕ) (m : Message) → SaysMessage (old.body_of bytes) from to m → IsOfVote m → get_or bytes 3 0 ≤ 3
+vote_byte bytes from to (Ask proposal token span) h vote =
+    let kept = byte_kept bytes (let size = h.0.number_of_bytes in omega (arith, size)) in let kind = h.0.kind_at in omega (arith, kept, kind)
+vote_byte bytes from to (Grant proposal token span) h vote =
+    let kept = byte_kept bytes (let size = h.0.number_of_bytes in omega (arith, size)) in let kind = h.0.kind_at in omega (arith, kept, kind)
+vote_byte bytes from to (Deny proposal token next) h vote =
+    let kept = byte_kept bytes (let size = h.0.number_of_bytes in omega (arith, size)) in let kind = h.0.kind_at in omega (arith, kept, kind)
+vote_byte bytes from to (Floor token next) h vote = absurd vote
+
+kind_of_vote : (kind : Kind) (byte : ℕ) → kind_byte kind ≡ byte → byte ≤ 3 → IsKindOfVote kind
+kind_of_vote AskKind byte is low = tt
+kind_of_vote GrantKind byte is low = tt
+kind_of_vote DenyKind byte is low = tt
+kind_of_vote FloorKind byte is low = absurd (omega (arith, is, low))
+kind_of_vote FloorsKind byte is low = absurd (omega (arith, is, low))
+
+-- the numbered datagram of a vote is of a named one
+kept_kind : (head : Head) (number : ℕ) (fields : List ℕ) (envelope : Envelope) → envelope_at bare (numbered_front head number fields ++ tag_of bare (numbered_front head number fields)) ≡ Some envelope → IsOfVote envelope.message
+    → IsKindOfVote head.kind
+kept_kind head number fields envelope reads vote = go (old.datagram_at bare bytes) refl reads
+  where
+    bytes : List ℕ
+    bytes = numbered_front head number fields ++ tag_of bare (numbered_front head number fields)
+
+    go : (o : Option (ℕ × ℕ × Message)) → old.datagram_at bare bytes ≡ o
+        → option_map (λ (read : ℕ × ℕ × Message). let e : Envelope = record { sender = read.0; receiver = read.1; message = read.2 } in e) o ≡ Some envelope → IsKindOfVote head.kind
+    go None is e = absurd (none-some envelope e)
+    go (Some read) is e =
+        let one : Envelope = record { sender = read.0; receiver = read.1; message = read.2 } in
+        kind_of_vote head.kind (get_or bytes 3 0) refl
+        (vote_byte bytes read.0 read.1 read.2 (datagram_takes bare bytes read is).1.1 (subst (λ (x : Envelope). IsOfVote x.message) (sym (same_Some one envelope e)) vote))
+
+-- what holds of no bytes and of each numbered datagram
+numbered_cases : (names : List (List ℕ)) (head : Head) (body : List ℕ) (P : List ℕ → Type 0) → P []
+    → ((number : ℕ) (fields : List ℕ) → P (numbered_front head number fields ++ tag_of bare (numbered_front head number fields))) → P (bytes_or_none (numbered_of names head body))
+unfolding numbered_of
+numbered_cases names head body P none some =
+    let fields = unpacked head.kind head.from head.to (drop 16 body) in
+    let number = place_of names (take 16 body) in
+    cond_both (is_named head body) (with_number head fields number) None (λ o. P (bytes_or_none o)) (λ _. by fields number) (λ _. none)
+  where
+    by : (fields : Option (List ℕ)) (number : Option ℕ) → P (bytes_or_none (with_number head fields number))
+    by None number = none
+    by (Some fields) None = none
+    by (Some fields) (Some number) = some number fields
+
+-- bytes that tell a vote are a datagram of a vote
+pub is_vote : (names : List (List ℕ)) (node from : ℕ) (terms : Terms) (bytes : List ℕ) → TellsVote names node terms from bytes → IsVoteFor terms.key from node bytes
+is_vote names node from terms bytes h = at_all (datagram_at h.translator.key bytes) refl h.reads
+  where
+    t : TranslatorRecord
+    t = h.translator
+
+    Reads : List ℕ → Type 0
+    Reads handed = envelope_at bare handed ≡ Some h.envelope
+
+    nothing_read : Reads [] → ⊥
+    nothing_read q = none-some h.envelope (sym no_bytes ∙ q)
+
+    of_age : (read : Head × List ℕ) → datagram_at t.key bytes ≡ Some read → (eqb read.0.from from && eqb read.0.to t.me) ≡ true → (older : Bool) → Reads (bytes_or_none (cond older None (numbered_of t.names read.0 read.1)))
+        → IsVoteFor terms.key from node bytes
+    of_age read is sent true q = absurd (nothing_read q)
+    of_age read is sent false q =
+        let ends = and_parts (eqb read.0.from from) (eqb read.0.to t.me) sent in
+        record {
+          read = read;
+          reads = ap (λ k. datagram_at k bytes) (sym h.is_of.key) ∙ is;
+          from_is = eqb-true read.0.from from ends.0;
+          to_is = eqb-true read.0.to t.me ends.1 ∙ h.is_of.me;
+          kind = numbered_cases t.names read.0 read.1 (λ handed. Reads handed → IsKindOfVote read.0.kind) (λ z. absurd (nothing_read z))
+              (λ number fields z. kept_kind read.0 number fields h.envelope z h.vote) q;
+        }
+
+    of_sent : (read : Head × List ℕ) → datagram_at t.key bytes ≡ Some read → (sent : Bool) → (eqb read.0.from from && eqb read.0.to t.me) ≡ sent → Reads (bytes_or_none (translated t (cond sent (Some read) None)))
+        → IsVoteFor terms.key from node bytes
+    of_sent read is false e q = absurd (nothing_read q)
+    of_sent read is true e q = of_age read is e (is_older t.heard read.0) q
+
+    at_all : (o : Option (Head × List ℕ)) → datagram_at t.key bytes ≡ o → Reads (bytes_or_none (translated t (between from t.me o))) → IsVoteFor terms.key from node bytes
+    at_all None is q = absurd (nothing_read q)
+    at_all (Some read) is q = of_sent read is (eqb read.0.from from && eqb read.0.to t.me) refl q

@@ -12,7 +12,7 @@ use Rattle.named_port.specs.Wire.{named_of, numbered_of}
 use Rattle.oath_node.specs.Hosted.{envelope_at}
 use Rattle.book_law.specs.Lives.{Output, Sealed, ToPeer}
 use Rattle.name_law.specs.Datagrams.{AreNames, IsSpelled, handed_bytes, named_datagram, own_datagram}
-use Rattle.name_law.specs.Examples.{all_names, ask_of, asked, sealed_ask, silver_ask, terms_2, three_of, user_names}
+use Rattle.name_law.specs.Examples.{all_names, ask_of, asked, sealed_ask, silver_ask, silver_floor, terms_2, three_of, user_names}
 use Rattle.name_law.specs.Unforged.{IsSized, ReadsOffered, WereOffered}
 use Rattle.name_law.proofs.Datagrams.{reads_own}
 use Rattle.name_law.proofs.Names.{spelled_with}
@@ -53,7 +53,7 @@ whole_users (suc (suc token)) name at = absurd (none-some name at)
 pub are_user_names : AreNames user_names
 are_user_names = record { distinct = λ i j d low high. apart_users i j d low high; whole = whole_users }
 
-not_two : ◌≡◌ {A = ℕ} 1 2 → ⊥
+pub not_two : ◌≡◌ {A = ℕ} 1 2 → ⊥
 not_two e = omega (arith, e)
 
 pub ask_spelled : (token : ℕ) → IsSpelled (ask_of token)
@@ -131,5 +131,11 @@ reads_ask = record {
   is_of = record { key = refl; names_are = refl; me = refl };
   bytes = named_ask;
   reads = reads_asked;
-  unforged = λ envelope is. was_asked;
+  unforged = λ envelope is vote. was_asked;
 }
+
+pub silver_floor_spelled : IsSpelled silver_floor.envelope
+silver_floor_spelled = (
+  record { from_first = omega arith; from_last = omega arith; to_first = omega arith; to_last = omega arith; apart = λ e. not_two (sym e); token_below = omega arith },
+  omega arith,
+)

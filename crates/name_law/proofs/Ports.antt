@@ -20,7 +20,7 @@ use Rattle.book_law.specs.Lives.{Output, Setting, Store, Terms}
 use Rattle.book_law.specs.Uses.{IsProcess, OwnOutput, ToClientOwn, ToPeerOwn, offer_of_output}
 use Rattle.name_law.specs.Datagrams.{IsTranslatorOf, handed_bytes}
 use Rattle.name_law.specs.Ports.{AreSeated, ReadsEvent, first_translator, named_offer}
-use Rattle.name_law.specs.Unforged.{ReadsOffered, WereOffered}
+use Rattle.name_law.specs.Unforged.{ReadsOffered, TellsVote, WereOffered}
 use Rattle.name_law.proofs.Datagrams.{offers_named}
 
 -- ---- translators
@@ -114,8 +114,14 @@ inputs_law names setting node terms boot found taken calls left is place from re
 
 -- what was offered before, byte for byte, is unforged
 pub reads_law : (names : List (List ℕ)) (node : ℕ) (terms : Terms) (calls : List PortEvent) (offered : List Output) (from : ℕ) (read : Option Envelope) → ReadsEvent names node terms calls from read
-    → ((bytes : List ℕ) → Has calls (Received (FromMember from) bytes) → WereOffered names terms.key offered bytes) → ReadsOffered names node terms offered from read
-reads_law names node terms calls offered from read r h = record { translator = r.translator; is_of = r.is_of; bytes = r.bytes; reads = r.reads; unforged = λ envelope is. h r.bytes r.came }
+    → ((bytes : List ℕ) → Has calls (Received (FromMember from) bytes) → TellsVote names node terms from bytes → WereOffered names terms.key offered bytes) → ReadsOffered names node terms offered from read
+reads_law names node terms calls offered from read r h = record {
+  translator = r.translator;
+  is_of = r.is_of;
+  bytes = r.bytes;
+  reads = r.reads;
+  unforged = λ envelope is vote. h r.bytes r.came (record { translator = r.translator; is_of = r.is_of; envelope = envelope; reads = sym r.reads ∙ is; vote = vote });
+}
 
 -- ---- offers
 

@@ -22,10 +22,11 @@ use Rattle.cluster_sim.proofs.BelowLaws.{GroundLaw}
 use Rattle.cluster_sim.proofs.Spelled.{IsFineEvent}
 use Rattle.seat_law.specs.Seats.{Sites, seat_name}
 use Rattle.seat_law.proofs.Relation.{Sim}
-use Rattle.book_law.specs.Lives.{Action, Opens, FailsToOpen, Takes, Offers, Stops, StopsIn, Loses, Remakes, Enrols, Unlocks, Raises, AreGenuine, IsGenuine, IsGenuineAction, IsGenuineAt, IsHistory, Output, Process, Sealed, Setting, State, Store, Terms, ToPeer, Down, Up, WasOffered, do_fit, first_state, named_envelope, state_after_action}
-use Rattle.book_law.proofs.Effects.{IsSent}
+use Rattle.book_law.specs.Lives.{Action, Opens, FailsToOpen, Takes, Offers, Stops, StopsIn, Loses, Remakes, Enrols, Unlocks, Raises, AreGenuine, IsGenuine, IsGenuineAction, IsGenuineAt, IsHistory, IsOfVote, Output, Process, Sealed, Setting, State, Store, Terms, ToPeer, Down, Up, WasOffered, do_fit, first_state, made_boot, named_envelope, state_after_action}
+use Rattle.book_law.proofs.Effects.{HasSent, IsSent}
 use Rattle.book_law.proofs.Fits.{Fits}
-use Rattle.book_law.proofs.Walk.{first_holds, follows}
+use Rattle.book_law.proofs.Floors.{FloorsSentBy, all_grow, told_may, told_of}
+use Rattle.book_law.proofs.Walk.{first_holds, first_told, follows, former}
 use Rattle.name_law.specs.Datagrams.{IsReadable, IsSpelled, bytes_for, handed_bytes, numbered_envelope, own_number}
 use Rattle.name_law.specs.Unforged.{AreUnforged, IsSized, IsUnforged, IsUnforgedAction, IsUnforgedAt, IsUnforgedHistory, ReadsOffered, WereOffered}
 use Rattle.name_law.proofs.Datagrams.{handed_is, no_bytes, read_law, read_spelled, same_law}
@@ -48,11 +49,11 @@ pub record AreTerms (terms : Terms) : Type 0 where
 
 module _ (names : List (List ℕ)) (setting : Setting) (sized : IsSized names setting) (node : ℕ) (terms : Terms) (are : AreTerms terms) (offered : List Output) (knows : KnowsOffered names offered) where
   -- what is read of an offered datagram
-  pub read_known : (from : ℕ) (l : Envelope) → (r : ReadsOffered names node terms offered from (Some l)) → WasOffered offered (record { key = terms.key; envelope = named_envelope terms.seats l })
-  read_known from l r = through (eqb e.sender from && eqb e.receiver node) (ltb o.boot (get_or r.translator.heard e.sender 0)) (own_number terms.seats token) refl (r.reads ∙ ap (envelope_at bare) handed)
+  pub read_known : (from : ℕ) (l : Envelope) → (r : ReadsOffered names node terms offered from (Some l)) → IsOfVote l.message → WasOffered offered (record { key = terms.key; envelope = named_envelope terms.seats l })
+  read_known from l r vote = through (eqb e.sender from && eqb e.receiver node) (ltb o.boot (get_or r.translator.heard e.sender 0)) (own_number terms.seats token) refl (r.reads ∙ ap (envelope_at bare) handed)
     where
       o : WereOffered names terms.key offered r.bytes
-      o = r.unforged l refl
+      o = r.unforged l refl vote
 
       e : Envelope
       e = o.sealed.envelope
@@ -91,7 +92,7 @@ module _ (names : List (List ℕ)) (setting : Setting) (sized : IsSized names se
   genuine : (input : NodeEvent) → IsUnforged names node terms offered input → IsGenuine terms offered input
   genuine (Client client moment line) h = tt
   genuine (Peer from None) h = tt
-  genuine (Peer from (Some l)) h = λ own within. read_known from l h
+  genuine (Peer from (Some l)) h = λ own vote within. read_known from l h vote
   genuine Tick h = tt
 
 fine_event : (names : List (List ℕ)) (node : ℕ) (terms : Terms) (offered : List Output) (input : NodeEvent) → IsUnforged names node terms offered input → IsFineEvent input
@@ -165,15 +166,18 @@ knows_offered names setting state s r many sim posts fits fine place sealed at =
     }
 
 all_genuine : GroundLaw → (names : List (List ℕ)) (setting : Setting) → IsSized names setting → (first : ℕ) (actions : List Action) (state : State) (s : Sites) (r : Roster)
-    → Sim s r → Posts s.seen.tokens r.cluster → Fits setting state s → IsFineState state → AreUnforged names setting first actions state → AreGenuine setting first actions state
+    → Sim s r → Posts s.seen.tokens r.cluster → Fits setting state s → Each (FloorsSentBy setting s.seen.own.sent) actions → IsFineState state → AreUnforged names setting first actions state → AreGenuine setting first actions state
 unfolding AreUnforged AreGenuine
-all_genuine grounds names setting sized first [] state s r sim posts fits fine h = tt
-all_genuine grounds names setting sized first (action ∷ actions) state s r sim posts fits fine h =
+all_genuine grounds names setting sized first [] state s r sim posts fits floors fine h = tt
+all_genuine grounds names setting sized first (action ∷ actions) state s r sim posts fits floors fine h =
     let knows = knows_offered names setting state s r sized.tokens sim posts fits fine in
     let g = genuine_action names setting sized state knows action fine h.0 in
-    let next = follows grounds setting first state s r sim posts fits action g in
-    let fine' = step_fine grounds setting sized.nodes names first state action fine h.0 (fine_take names setting sized state knows action h.0) in
-    (g, all_genuine grounds names setting sized (suc first) actions (state_after_action setting first action state) next.sites next.roster next.sim next.posts next.fits fine' h.1)
+    let next = follows grounds setting first state s r sim posts fits action g floors.0 in
+    let fine' = step_fine grounds setting sized.nodes names first state action fine h.0 (fine_take names setting sized state knows action h.0) in (
+      g,
+      all_genuine grounds names setting sized (suc first) actions (state_after_action setting first action state) next.sites next.roster next.sim next.posts next.fits
+          (all_grow setting s.seen.own.sent next.sites.seen.own.sent actions (λ l k. next.grows l (subst (λ sent. HasSent sent l) (sym sim.sent) k)) floors.1) fine' h.1,
+    )
 
 old_spelled : (xs : List Sealed) → ((i : ℕ) (sealed : Sealed) → slice_get xs i ≡ Some sealed → IsSpelled sealed.envelope) → Each IsSpelledOut (map (λ (sealed : Sealed). ToPeer sealed) xs)
 old_spelled [] h = tt
@@ -181,9 +185,10 @@ old_spelled (x ∷ xs) h = (h 0 x refl, old_spelled xs (λ i sealed at. h (suc i
 
 pub unforged : GroundLaw → (names : List (List ℕ)) (setting : Setting) (history : List Action) → IsSized names setting → IsUnforgedHistory names setting history → IsHistory setting history
 unforged grounds names setting history sized h =
-    let first = first_holds setting h.starts in
+    let may = told_may setting (made_boot setting) (former setting) history h.starts in
+    let first = first_holds setting (told_of setting history) may in
     record {
       starts = h.starts;
-      genuine = all_genuine grounds names setting sized 0 history (first_state setting) first.sites first.roster first.sim first.posts first.fits
+      genuine = all_genuine grounds names setting sized 0 history (first_state setting) first.sites first.roster first.sim first.posts first.fits (first_told setting history may)
           (record { nodes = λ node. tt; offered_spelled = old_spelled setting.old sized.old }) h.unforged;
     }

@@ -13,7 +13,7 @@ use Rattle.floor_store.specs.Records.{PassRecord, ProposalRecord, span_of}
 use Rattle.named_port.specs.Examples.{name_with, zeros}
 use Rattle.seated_store.specs.Seated.{SeatedRecord}
 use Rattle.vote_core.specs.Schedule.{Envelope}
-use Rattle.vote_core.specs.declared.message.Message.TheVariants.{Ask}
+use Rattle.vote_core.specs.declared.message.Message.TheVariants.{Ask, Deny, Floor, Grant}
 use Rattle.book_law.specs.Examples.{first_key, terms_of, three}
 use Rattle.book_law.specs.Lives.{Output, Sealed, Setting, Store, Terms, ToPeer, store_with_rows}
 
@@ -43,6 +43,25 @@ ask_of token = record { sender = 1; receiver = 2; message = Ask proposal token (
 -- the Ask under the canonical token, which is node 1's number 0 and node 2's number 1
 abbrev pub sealed_ask : Sealed
 sealed_ask = record { key = zeros; envelope = ask_of 2 }
+
+-- node 2's first proposal of boot 2, for factor 1
+abbrev pub proposal_of_2 : ProposalRecord
+proposal_of_2 = record { node = 2; boot = 2; seq = 0 }
+
+-- node 1's Grant and Deny of that proposal, by a number of node 2
+abbrev pub grant_of : ℕ → Envelope
+grant_of token = record { sender = 1; receiver = 2; message = Grant proposal_of_2 token (span_of 1 1) }
+
+abbrev pub denial_of : ℕ → Envelope
+denial_of token = record { sender = 1; receiver = 2; message = Deny proposal_of_2 token 9 }
+
+-- node 1 tells node 2 the floor 9 of a token
+abbrev pub floor_of : ℕ → Envelope
+floor_of token = record { sender = 1; receiver = 2; message = Floor token 9 }
+
+-- the floor under the canonical token, which is node 2's number 1
+abbrev pub sealed_floor : Sealed
+sealed_floor = record { key = zeros; envelope = floor_of 2 }
 
 -- the same under another key
 abbrev pub other_ask : List ℕ → Sealed
@@ -108,6 +127,10 @@ silver_ask = record {
     message = Ask (record { node = 1; boot = 1; seq = 0 }) 0 (span_of 0 0);
   };
 }
+
+-- node 2 tells node 1 silver's floor 9
+abbrev pub silver_floor : Sealed
+silver_floor = record { key = first_key; envelope = record { sender = 2; receiver = 1; message = Floor 0 9 } }
 
 -- ---- A node over a seated store
 

@@ -1,4 +1,4 @@
--- The assumption about the network, byte for byte: no datagram by names is forged under a key.
+-- The assumption about the network, byte for byte: no datagram of a vote by names is forged under a key.
 use Rattle.std.specs.Prelude.{◌≡◌, ℕ, suc, ◌^◌, ◌<◌, ◌≤◌, List, [], ◌∷◌, length, map, Option, Some, slice_get}
 use Rattle.vote_core.specs.Books.{blank_opening}
 use Rattle.vote_core.specs.Safety.{MayOpen}
@@ -7,7 +7,11 @@ use Rattle.vote_wire.specs.Key.{bare}
 use Rattle.oath_node.specs.Hosted.{envelope_at}
 use Rattle.oath_node.specs.Machine.{NodeEvent, Client, Peer, Tick}
 use Rattle.named_port.specs.Translator.{TranslatorRecord}
-use Rattle.book_law.specs.Lives.{Action, Opens, FailsToOpen, Takes, Offers, Stops, StopsIn, Loses, Remakes, Enrols, Unlocks, Raises, Output, Process, Sealed, Setting, State, Terms, ToPeer, Down, Up, first_state, made_boot, state_after_action}
+use Rattle.named_wire.specs.Datagram.{datagram_at}
+use Rattle.named_wire.specs.declared.head.Head.{Head}
+use Rattle.named_wire.specs.declared.head.Kind.{Kind}
+use Rattle.named_wire.specs.declared.head.Kind.TheVariants.{Ask, Grant, Deny, Floor, Floors}
+use Rattle.book_law.specs.Lives.{Action, Opens, FailsToOpen, Takes, Offers, Stops, StopsIn, Loses, Remakes, Enrols, Unlocks, Raises, IsOfVote, Output, Process, Sealed, Setting, State, Terms, ToPeer, Down, Up, first_state, made_boot, state_after_action}
 use Rattle.name_law.specs.Datagrams.{AreNames, IsSpelled, IsTranslatorOf, handed_bytes, named_datagram}
 
 -- The ranges of a history: the names of its canonical tokens, the number of nodes, and spellings for the envelopes of
@@ -29,15 +33,41 @@ pub record WereOffered (names : List (List ℕ)) (key : List ℕ) (offered : Lis
   pub boot_below : boot < 2 ^ 64
   pub bytes_are : bytes ≡ named_datagram names boot sealed
 
--- A process reads what its translator handed in for bytes from a member's address. If it reads an envelope, the bytes
--- were offered before under its key.
+-- A process reads what its translator handed in for bytes from a member's address. If it reads an envelope of a vote,
+-- the bytes were offered before under its key. Nobody need have offered bytes that only tell a floor.
 pub record ReadsOffered (names : List (List ℕ)) (node : ℕ) (terms : Terms) (offered : List Output) (from : ℕ)
     (read : Option Envelope) : Type 0 where
   pub translator : TranslatorRecord
   pub is_of : IsTranslatorOf names node terms translator
   pub bytes : List ℕ
   pub reads : read ≡ envelope_at bare (handed_bytes translator from bytes)
-  pub unforged : (envelope : Envelope) → read ≡ Some envelope → WereOffered names terms.key offered bytes
+  pub unforged : (envelope : Envelope) → read ≡ Some envelope → IsOfVote envelope.message
+      → WereOffered names terms.key offered bytes
+
+-- A process can read an envelope of a vote in bytes from a member's address. Its translator hands them in, in some
+-- state.
+pub record TellsVote (names : List (List ℕ)) (node : ℕ) (terms : Terms) (from : ℕ) (bytes : List ℕ) : Type 0 where
+  pub translator : TranslatorRecord
+  pub is_of : IsTranslatorOf names node terms translator
+  pub envelope : Envelope
+  pub reads : envelope_at bare (handed_bytes translator from bytes) ≡ Some envelope
+  pub vote : IsOfVote envelope.message
+
+-- the kind is that of a message of a vote
+abbrev pub IsKindOfVote : Kind → Type 0
+IsKindOfVote Ask = Unit {0}
+IsKindOfVote Grant = Unit {0}
+IsKindOfVote Deny = Unit {0}
+IsKindOfVote Floor = ⊥
+IsKindOfVote Floors = ⊥
+
+-- the bytes are a datagram of a vote under the key, from a member to another
+pub record IsVoteFor (key : List ℕ) (from to : ℕ) (bytes : List ℕ) : Type 0 where
+  pub read : Head × List ℕ
+  pub reads : datagram_at key bytes ≡ Some read
+  pub from_is : read.0.from ≡ from
+  pub to_is : read.0.to ≡ to
+  pub kind : IsKindOfVote read.0.kind
 
 -- an input of a node's process is unforged; lines and the passage of time are free
 abbrev pub IsUnforged : List (List ℕ) → ℕ → Terms → List Output → NodeEvent → Type 0
@@ -74,8 +104,8 @@ AreUnforged names setting first (action ∷ actions) state =
     IsUnforgedAction names state action
     × AreUnforged names setting (suc first) actions (state_after_action setting first action state)
 
--- A history of nodes in which no datagram is forged under a key. Envelopes from before fit, and are of boots before
--- those of the first stores.
+-- A history of nodes in which no datagram of a vote is forged under a key. Envelopes from before fit, and are of boots
+-- before those of the first stores.
 pub record IsUnforgedHistory (names : List (List ℕ)) (setting : Setting) (history : List Action) : Type 0 where
   pub starts : MayOpen setting.n setting.tokens
       (blank_opening (made_boot setting) (map (λ (sealed : Sealed). sealed.envelope) setting.old))

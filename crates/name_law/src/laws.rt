@@ -30,7 +30,7 @@ ghost use Rattle.book_law.specs.Uses.{IsProcess, OwnOutput, offer_of_output};
 ghost use Rattle.name_law.specs.Datagrams.{IsReadable, IsSpelled, IsTranslatorOf, bytes_for, named_datagram, numbered_envelope, own_datagram, own_number};
 ghost use Rattle.name_law.specs.Ports.{AreSeated, ReadsEvent, first_translator, named_offer};
 ghost use Rattle.name_law.specs.Stores.{KeepsOthers, LeavesUnder};
-ghost use Rattle.name_law.specs.Unforged.{IsSized, IsUnforgedHistory, ReadsOffered, WereOffered};
+ghost use Rattle.name_law.specs.Unforged.{IsSized, IsUnforgedHistory, IsVoteFor, ReadsOffered, TellsVote, WereOffered};
 
 use book_law::books_are_safe;
 use floor_store::FloorStore;
@@ -88,12 +88,15 @@ pub fn named_ports_tell_envelopes()
         (handed_events (first_translator names node terms boot) calls) left
         → (place from : ℕ) (read : Option Envelope) → slice_get taken place ≡ Some (Peer from read)
         → ReadsEvent names node terms calls from read }
-    // It is unforged if the bytes that came from the member's address were offered before.
+    // It is unforged if all bytes from the member's address that tell a vote were offered before.
     ensures reads { (names : List (List ℕ)) (node from : ℕ) (terms : Terms) (calls : List PortEvent)
         (offered : List Output) (read : Option Envelope) → ReadsEvent names node terms calls from read
-        → ((bytes : List ℕ) → Has calls (Received (FromMember from) bytes)
+        → ((bytes : List ℕ) → Has calls (Received (FromMember from) bytes) → TellsVote names node terms from bytes
         → WereOffered names terms.key offered bytes)
         → ReadsOffered names node terms offered from read }
+    // Bytes that tell a vote are a datagram of a vote from the member. No datagram of floors tells one.
+    ensures votes { (names : List (List ℕ)) (node from : ℕ) (terms : Terms) (bytes : List ℕ)
+        → TellsVote names node terms from bytes → IsVoteFor terms.key from node bytes }
     // The offers below are those of the process in order, each envelope as its datagram under canonical tokens.
     ensures offers { (names : List (List ℕ)) (node boot : ℕ) (terms : Terms) (calls : List PortEvent)
         (own : List OwnOutput) → AreSeated terms own
@@ -124,10 +127,10 @@ pub fn seated_stores_keep_other_rows<S: FloorStore>()
         → (seated_held S.held store).leaves seen → LeavesUnder S.held store.seats first seen store.inner }
 {}
 
-/// Unforged datagrams: if no datagram by names is forged, byte for byte, the laws of histories hold.
+/// Unforged datagrams: if no datagram of a vote by names is forged, byte for byte, the laws of histories hold.
 ///
 /// Only a datagram that a translator reads under its process's key, from a member's address, can be forged. It is
-/// unforged if a process offered exactly its bytes before, under the same key.
+/// unforged if it only tells a floor, or if a process offered exactly its bytes before, under the same key.
 pub fn unforged_names_are_genuine()
     ensures { (names : List (List ℕ)) (setting : Setting) (history : List Action) → IsSized names setting
         → IsUnforgedHistory names setting history → IsHistory setting history }
@@ -135,7 +138,9 @@ pub fn unforged_names_are_genuine()
     rulings_have_grounds();
 }
 
-/// Safety by names: if no datagram by names is forged, acceptances and answers keep the promises of `book_law`.
+/// Safety by names: if no vote by names is forged, acceptances and answers keep the promises of `book_law`.
+///
+/// Floors may be told by anybody, singly and in bulk.
 pub fn unforged_names_are_safe()
     ensures single_use { (names : List (List ℕ)) (setting : Setting) (history : List Action) → IsSized names setting
         → IsUnforgedHistory names setting history → HaveSingleUse (accepted_in setting history) }

@@ -1,7 +1,7 @@
 //! Worked cases and counterexamples of datagrams by names.
 
 ghost use Rattle.std.specs.Prelude.{◌≡◌, [], ◌∷◌, Some, None, map, replicate, slice_set, false};
-ghost use Rattle.book_law.specs.Broken.{ask_comes, ask_comes_early, forged, forged_in_a_stop, to_nobody};
+ghost use Rattle.book_law.specs.Broken.{ask_comes, ask_comes_early, forged, forged_in_a_stop, tells, to_nobody};
 ghost use Rattle.book_law.specs.Examples.{ask_for, maple_first, other_key, silver, terms_of, three};
 ghost use Rattle.book_law.specs.Lives.{Down, Enrols, Opens, Raises, Remakes, ToPeer, first_state, named_envelope, store_with_rows};
 ghost use Rattle.book_law.specs.Uses.{ToClientOwn, ToPeerOwn};
@@ -13,10 +13,10 @@ ghost use Rattle.floor_store.specs.Examples.{content_at, free_row};
 ghost use Rattle.named_port.specs.Examples.{name_with, named_ask, names_of_1, names_of_2, node_2, node_2_after, numbered_ask, renumbered_ask, zeros};
 ghost use Rattle.oath_node.specs.Machine.{Client, Peer, Tick};
 ghost use Rattle.name_law.specs.Datagrams.{AreNames, IsReadable, IsSpelled, IsTranslatorOf, bytes_for, handed_bytes, name_at, named_datagram, numbered_envelope, own_datagram, own_names, own_number};
-ghost use Rattle.name_law.specs.Examples.{all_names, ask_for_factor, ask_of, ask_to, asked, came, floors, other_ask, pass_of, past_floors, sealed_ask, seated, seen, silver_told, terms_1, terms_2, three_of, user_names};
+ghost use Rattle.name_law.specs.Examples.{all_names, ask_for_factor, ask_of, ask_to, asked, came, denial_of, floor_of, floors, grant_of, other_ask, pass_of, past_floors, sealed_ask, sealed_floor, seated, seen, silver_told, terms_1, terms_2, three_of, user_names};
 ghost use Rattle.name_law.specs.Ports.{AreSeated, ReadsEvent, first_translator, named_offer};
 ghost use Rattle.name_law.specs.Stores.{IsUnder, KeepsOthers, LeavesUnder};
-ghost use Rattle.name_law.specs.Unforged.{IsSized, IsUnforged, IsUnforgedAction, IsUnforgedAt, IsUnforgedHistory, ReadsOffered, WereOffered};
+ghost use Rattle.name_law.specs.Unforged.{IsSized, IsUnforged, IsUnforgedAction, IsUnforgedAt, IsUnforgedHistory, IsVoteFor, ReadsOffered, TellsVote, WereOffered};
 
 use oath_node::rulings_have_grounds;
 
@@ -90,11 +90,22 @@ pub fn unforged_names_can_be_broken()
     ensures read_nothing { ReadsOffered all_names 2 terms_2 [] 1 None }
     ensures forged { ReadsOffered all_names 2 terms_2 [] 1 (Some (ask_of 1)) → ⊥ }
     ensures forged_token { ReadsOffered all_names 2 terms_2 asked 1 (Some (ask_of 0)) → ⊥ }
+    ensures forged_grant { ReadsOffered all_names 2 terms_2 asked 1 (Some (grant_of 1)) → ⊥ }
+    ensures forged_denial { ReadsOffered all_names 2 terms_2 [] 1 (Some (denial_of 1)) → ⊥ }
+    ensures free_floor { ReadsOffered all_names 2 terms_2 [] 1 (Some (floor_of 1)) }
     ensures forged_to_a_process { IsUnforged all_names 2 terms_2 [] (Peer 1 (Some (ask_of 1))) → ⊥ }
     ensures free_line { IsUnforged all_names 2 terms_2 [] (Client 7 100 []) }
     ensures free_time { IsUnforged all_names 2 terms_2 [] Tick }
     ensures free_without_a_process { IsUnforgedAt all_names 2 (Down (store_with_rows 0 [] (λ token. 0))) []
         (Peer 1 (Some (ask_of 1))) }
+
+    ensures vote { IsVoteFor zeros 1 2 named_ask }
+    ensures vote_from_another { IsVoteFor zeros 3 2 named_ask → ⊥ }
+    ensures vote_for_another { IsVoteFor zeros 1 3 named_ask → ⊥ }
+    ensures floor_is_no_vote { IsVoteFor zeros 1 2 (named_datagram all_names 2 sealed_floor) → ⊥ }
+    ensures tells_a_vote { TellsVote all_names 2 terms_2 1 named_ask }
+    ensures tells_a_floor { TellsVote all_names 2 terms_2 1 (named_datagram all_names 2 sealed_floor) → ⊥ }
+    ensures tells_from_another { TellsVote all_names 2 terms_2 3 (named_datagram all_names 2 sealed_ask) → ⊥ }
 {}
 
 /// Counterexamples: actions out of range, and histories with a datagram that no process offered before.
@@ -117,6 +128,8 @@ pub fn unforged_histories_can_be_broken()
     ensures forged { IsUnforgedHistory user_names three forged → ⊥ }
     ensures forged_in_a_stop { IsUnforgedHistory user_names three forged_in_a_stop → ⊥ }
     ensures to_nobody { IsUnforgedHistory user_names three to_nobody }
+    // Nobody need have offered a datagram that only tells a floor.
+    ensures told_by_nobody { IsUnforgedHistory user_names three (tells 0 9) }
 {
     rulings_have_grounds();
 }

@@ -4,4 +4,5 @@ pub mod WireLemmas
 pub mod RunLemmas
 pub mod SetupLemmas
 pub mod SpellingLemmas
+pub mod FieldLemmas
 pub mod CallLemmas

@@ -272,6 +272,8 @@ handed_law key names me boot before event member bytes e some =
       one_token = n.one_token;
       number = n.number;
       name_is = name_of_number names n.number (take 16 o.body) n.number_is;
+      fields = n.fields;
+      fields_are = n.fields_are;
       bytes_are = sym n.bytes_are;
     }
 

@@ -38,6 +38,14 @@ node_2 = new_translator zeros names_of_2 2 5
 abbrev pub node_2_after : ℕ → ℕ → TranslatorRecord
 node_2_after one three = record node_2 { heard = 0 ∷ one ∷ 0 ∷ three ∷ replicate 6 0 }
 
+-- the fields of a vote for the second proposal of boot 2 of a node, with a first and a last factor
+abbrev pub vote_of : ℕ → List ℕ → List ℕ → List ℕ
+vote_of node first last = node ∷ eight_bytes 2 ++ eight_bytes 1 ++ first ++ last
+
+-- the packed fields of such a vote, with the low byte of the last factor
+abbrev pub packed_vote_of : List ℕ → ℕ → List ℕ
+packed_vote_of first low = eight_bytes 2 ++ eight_bytes 1 ++ first ++ low ∷ []
+
 -- the tag under the bare key
 abbrev pub no_tag : List ℕ
 no_tag = replicate 16 0
@@ -46,15 +54,19 @@ no_tag = replicate 16 0
 abbrev pub numbered_ask : List ℕ
 numbered_ask = ask_body ++ no_tag
 
+-- its fields by name: the boot and the number of its proposal, its first factor, and the low byte of the last one
+abbrev pub packed_ask : List ℕ
+packed_ask = eight_bytes 2 ++ eight_bytes 0 ++ eight_bytes 1 ++ 1 ∷ []
+
 -- the bytes before the tag of the same with the name, from node 1 in boot 2
 abbrev pub named_ask_front : List ℕ
 named_ask_front =
-    0x4f ∷ 0x56 ∷ 3 ∷ 1 ∷ 1 ∷ 2 ∷ eight_bytes 2 ++ name_with 0xaa ++ drop 10 ask_body
+    0x4f ∷ 0x56 ∷ 3 ∷ 1 ∷ 1 ∷ 2 ∷ eight_bytes 2 ++ name_with 0xaa ++ packed_ask
 
 -- the tag of the named Ask
 abbrev pub named_ask_tag : List ℕ
 named_ask_tag =
-    0xa7 ∷ 0xef ∷ 0x2a ∷ 0x81 ∷ 0x90 ∷ 0xa3 ∷ 0x8d ∷ 0x40 ∷ 0x96 ∷ 0x4c ∷ 0x60 ∷ 0x69 ∷ 0x24 ∷ 0x2b ∷ 0xd6 ∷ 0x1d ∷ []
+    0xad ∷ 0x8c ∷ 0xb5 ∷ 0xa7 ∷ 0x14 ∷ 0x2b ∷ 0x9c ∷ 0xe1 ∷ 0x89 ∷ 0xa3 ∷ 0xe1 ∷ 0xbf ∷ 0xa3 ∷ 0x80 ∷ 0x08 ∷ 0x74 ∷ []
 
 -- the same Ask with the name
 abbrev pub named_ask : List ℕ

@@ -6,7 +6,7 @@ use Rattle.named_wire.specs.Datagram.{datagram_at}
 use Rattle.named_wire.specs.declared.head.Head.{Head}
 use Rattle.vote_core.specs.declared.message.Message.{Message}
 use Rattle.named_port.specs.Translator.{TranslatorRecord, after_event, between, handed_in, new_translator, offered}
-use Rattle.named_port.specs.Wire.{is_of_one_token, named_at, named_bytes, numbered_bytes, token_of}
+use Rattle.named_port.specs.Wire.{is_of_one_token, named_at, named_bytes, numbered_bytes, token_of, unpacked}
 
 -- the boot of a head, or 0
 abbrev pub boot_of : Option (Head × List ℕ) → ℕ
@@ -95,7 +95,9 @@ pub record IsTranslated (key : List ℕ) (names : List (List ℕ)) (me : ℕ) (b
   pub one_token : is_of_one_token head.kind ≡ true
   pub number : ℕ
   pub name_is : slice_get names number ≡ Some (take 16 body)
-  pub bytes_are : Some bytes ≡ numbered_bytes head (drop 16 body) (Some number)
+  pub fields : List ℕ
+  pub fields_are : unpacked head.kind head.from head.to (drop 16 body) ≡ Some fields
+  pub bytes_are : Some bytes ≡ numbered_bytes head fields (Some number)
 
 -- A named datagram of a head says by name what a message says by number.
 pub record IsNamedOf (key : List ℕ) (names : List (List ℕ)) (head : Head) (bytes : List ℕ) (from to : ℕ)

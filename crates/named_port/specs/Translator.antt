@@ -64,8 +64,8 @@ after_read translator (Some read) =
     else record translator { heard = slice_set translator.heard read.0.from read.0.boot }
 
 -- Whether a datagram from a member's address shows that the member differs, by its bytes and by the head and the body
--- that the member sent. The member didn't send it under the node's key. Or it is of one token whose name the book
--- hasn't, and of no older boot.
+-- that the member sent. The member didn't send it under the node's key. Or it is of one token and of no older boot, and
+-- has no numbered datagram: the book hasn't its name, or its fields have another form.
 abbrev pub differs : TranslatorRecord → List ℕ → Option (Head × List ℕ) → Bool
 differs translator bytes None = nat_lt 0 (length bytes)
 differs translator bytes (Some read) =

@@ -4,6 +4,7 @@ ghost use Rattle.datagram_port.specs.declared.port.Sender.TheVariants.{Peer};
 ghost use Rattle.named_wire.specs.Bytes.{AreBytes};
 ghost use Rattle.named_wire.specs.Datagram as named_spec;
 ghost use Rattle.named_wire.specs.declared.head.Head.{Head};
+ghost use Rattle.named_wire.specs.declared.head.Kind.{Kind};
 ghost use Rattle.token_names.specs.Names.{AreDistinct};
 ghost use Rattle.vote_core.specs.declared.message.Message.{Message};
 ghost use Rattle.vote_wire.specs.Body.{HasSpelling};
@@ -11,7 +12,7 @@ ghost use Rattle.vote_wire.specs.Datagram.{datagram_at, datagram_bytes};
 ghost use Rattle.vote_wire.specs.Key.{bare};
 ghost use Rattle.named_port.specs.Runs.{Has, IsNamedOf, IsOfferOf, IsTranslated, after_events, below_events, greatest_boot, handed_events};
 ghost use Rattle.named_port.specs.Translator.{handed_in, new_translator};
-ghost use Rattle.named_port.specs.Wire.{named_at, named_bytes, numbered_at, numbered_of, token_of};
+ghost use Rattle.named_port.specs.Wire.{named_at, named_bytes, numbered_at, numbered_of, packed, token_of, unpacked};
 
 /// One spelling: a message has one numbered and one named datagram, and each is the translation of the other.
 ///
@@ -32,6 +33,16 @@ pub fn named_one_spelling()
         (message : Message) → length names ≤ 10000 → AreBytes bytes →
         named_spec.datagram_at key bytes ≡ Some (head, body) → numbered_of names head body ≡ Some out →
         datagram_at bare out ≡ Some (from, to, message) → IsNamedOf key names head bytes from to message }
+{}
+
+/// Packed fields: fields of a numbered datagram that are packed are unpacked to the same, and the other way.
+///
+/// So no packed fields tell those of another message.
+pub fn packed_fields_tell()
+    ensures again { (kind : Kind) (from to : ℕ) (fields short : List ℕ) → AreBytes fields →
+        packed kind from to fields ≡ Some short → unpacked kind from to short ≡ Some fields }
+    ensures back { (kind : Kind) (from to : ℕ) (short fields : List ℕ) → from < 256 → to < 256 → AreBytes short →
+        unpacked kind from to short ≡ Some fields → packed kind from to fields ≡ Some short }
 {}
 
 /// Boots: a translator's boot of a member is the greatest one that the member's datagrams told it, in every execution.

@@ -49,12 +49,29 @@ fn ask(token: u32) -> Result<Message, Fail> {
     })
 }
 
+/// Returns a Grant to a proposal of node 2 about token 0, for a factor and the one after it.
+fn grant(first: u64) -> Result<Message, Fail> {
+    let proposal = Proposal::new(2, 9, 3).ok_or("a proposal")?;
+    let lo = Factor::new(first).ok_or("a factor")?;
+    let hi = Factor::new(lo.value() + 1).ok_or("a factor")?;
+    Ok(Message::Grant {
+        proposal,
+        token: 0,
+        span: Span::new(lo, hi).ok_or("a span")?,
+    })
+}
+
 /// Returns what node 1 in a boot offers below for an Ask about a token.
 fn offered(alloc: Global, boot: u64, token: u32) -> Result<Vec<u8>, Fail> {
+    offered_for(alloc, boot, &ask(token)?)
+}
+
+/// Returns what node 1 in a boot offers below for a message to node 2.
+fn offered_for(alloc: Global, boot: u64, message: &Message) -> Result<Vec<u8>, Fail> {
     let key = key()?;
     let names = names(alloc, ROWS_OF_1)?;
     let mut port = NamedPort::new(ListPort::new(alloc, &[]), &key, &names, 1, boot);
-    let bytes = write_message(&ClusterKey::bare(), 1, 2, &ask(token)?);
+    let bytes = write_message(&ClusterKey::bare(), 1, 2, message);
     port.send(Sender::Peer(2), &bytes);
     let below = port.into_inner();
     match below.record().ok_or("a record")?.first() {
@@ -97,7 +114,7 @@ fn only_1() -> [bool; 10] {
 fn other_orders_are_understood(rt: HostRuntime) -> Result<(), Fail> {
     let key = key()?;
     let sent = offered(rt.alloc(), 5, 2)?;
-    assert!(rt; sent.len() == 79);
+    assert!(rt; sent.len() == 71);
     let comings = [from_1(&sent)];
     let names = names(rt.alloc(), ROWS_OF_2)?;
     let mut port = NamedPort::new(ListPort::new(rt.alloc(), &comings), &key, &names, 2, 9);
@@ -106,6 +123,21 @@ fn other_orders_are_understood(rt: HostRuntime) -> Result<(), Fail> {
     assert!(rt; read_message(&ClusterKey::bare(), &buffer[..len]) == Some((1, 2, ask(0)?)));
     assert!(rt; port.heard()[1] == 5 && port.take_older().is_none());
     assert!(rt; port.take_differing() == [false; 10]);
+    Ok(())
+}
+
+/// Node 2 reads a Grant of node 1 with both factors, also if the low byte of the second one is 0.
+#[test]
+fn spans_are_kept(rt: HostRuntime) -> Result<(), Fail> {
+    let key = key()?;
+    let sent = offered_for(rt.alloc(), 5, &grant(255)?)?;
+    assert!(rt; sent.len() == 71 && sent[54] == 0);
+    let comings = [from_1(&sent)];
+    let names = names(rt.alloc(), ROWS_OF_1)?;
+    let mut port = NamedPort::new(ListPort::new(rt.alloc(), &comings), &key, &names, 2, 9);
+    let mut buffer = [0; 512];
+    let len = len_of(port.receive(&mut buffer))?;
+    assert!(rt; read_message(&ClusterKey::bare(), &buffer[..len]) == Some((1, 2, grant(255)?)));
     Ok(())
 }
 

@@ -1,17 +1,17 @@
-ghost use Rattle.std.specs.Prelude.{◌≡◌, [], ◌∷◌, ◌++◌, Some, None, codes, false, map, replicate, slice_set, take, true};
+ghost use Rattle.std.specs.Prelude.{◌≡◌, [], ◌∷◌, ◌++◌, Some, None, codes, drop, false, map, replicate, slice_set, take, true};
 ghost use Rattle.datagram_port.specs.Port.{Faulted, Offered, Quiet, Received};
 ghost use Rattle.datagram_port.specs.declared.port.Sender.TheVariants.{Client, Peer};
 ghost use Rattle.named_wire.specs.declared.head.Head.{Head};
-ghost use Rattle.named_wire.specs.declared.head.Kind.TheVariants.{Floor, Floors};
-ghost use Rattle.vote_wire.specs.Examples.{ask_body};
+ghost use Rattle.named_wire.specs.declared.head.Kind.TheVariants.{Ask, Deny, Floor, Floors, Grant};
+ghost use Rattle.vote_wire.specs.Examples.{ask_body, eight_bytes};
 ghost use Rattle.node_log.specs.Examples.{only};
-ghost use Rattle.named_port.specs.Examples.{bare_setup, floor_6, floor_7, floor_from, floor_head, from_3, name_with, named_ask, names_of_1, names_of_2, node_1, node_2, node_2_after, numbered_ask, older, renumbered_ask, short_names, zeros};
+ghost use Rattle.named_port.specs.Examples.{bare_setup, floor_6, floor_7, floor_from, floor_head, from_3, name_with, named_ask, names_of_1, names_of_2, node_1, node_2, node_2_after, numbered_ask, older, packed_ask, packed_vote_of, renumbered_ask, short_names, vote_of, zeros};
 ghost use Rattle.named_port.specs.Names.{number_of};
 ghost use Rattle.named_port.specs.Port.{Polls, Receives};
 ghost use Rattle.named_port.specs.Runs.{Has, IsAfter, after_events, at_start, below_events, boot_told, greatest_boot, handed_events};
 ghost use Rattle.named_port.specs.Setup.{named_setup};
 ghost use Rattle.named_port.specs.Translator.{after_event, after_read, between, differs, handed_in, marked, new_translator, offered, translated};
-ghost use Rattle.named_port.specs.Wire.{is_named, is_numbered, named_at, numbered_at, numbered_of};
+ghost use Rattle.named_port.specs.Wire.{is_named, is_numbered, last_factor, named_at, numbered_at, numbered_of, packed, unpacked};
 
 /// Worked cases. An Ask of node 1 with the number of its token, with the name, and with the number at node 2.
 pub fn translations_are_worked()
@@ -26,13 +26,49 @@ pub fn translations_are_worked()
     ensures no_tag { map (named_at zeros names_of_1 2) ([] ∷ replicate 15 0 ∷ []) ≡ None ∷ None ∷ [] }
     ensures kinds { map (λ kind. named_at zeros names_of_1 2 (slice_set numbered_ask 3 kind)) (0 ∷ 5 ∷ 6 ∷ [])
         ≡ None ∷ None ∷ None ∷ [] }
-    ensures lengths { map (λ len. is_numbered (take len (ask_body ++ 0 ∷ []))) (17 ∷ 18 ∷ 43 ∷ 44 ∷ [])
-        ≡ false ∷ true ∷ true ∷ false ∷ [] }
+    ensures another_node { map (λ node. named_at zeros names_of_1 2 (slice_set numbered_ask 10 node)) (1 ∷ 2 ∷ [])
+        ≡ Some named_ask ∷ None ∷ [] }
+    ensures lengths { map (λ len. is_numbered (take len ask_body)) (17 ∷ 18 ∷ []) ≡ false ∷ true ∷ [] }
     ensures marks { map (λ place. is_numbered (slice_set ask_body place 3)) (0 ∷ 1 ∷ 2 ∷ 3 ∷ [])
         ≡ false ∷ false ∷ false ∷ true ∷ [] }
-    ensures bodies { map (λ len. is_named (floor_head Floor 3 7) (replicate len 0)) (23 ∷ 24 ∷ 49 ∷ 50 ∷ [])
-        ≡ false ∷ true ∷ true ∷ false ∷ [] }
+    ensures bodies { map (λ len. is_named (floor_head Floor 3 7) (replicate len 0)) (23 ∷ 24 ∷ [])
+        ≡ false ∷ true ∷ [] }
+    ensures wrong_last { numbered_of names_of_2 (floor_head Ask 1 2) (name_with 0xaa ++ slice_set packed_ask 24 3)
+        ≡ None }
     ensures several { numbered_of names_of_2 (floor_head Floors 3 7) (name_with 0xbb ++ replicate 8 0) ≡ None }
+{}
+
+/// Worked cases. The fields of votes of node 1, with the node and the last factor and without them.
+pub fn fields_are_worked()
+    ensures ask { packed Ask 1 2 (drop 10 ask_body) ≡ Some packed_ask }
+    ensures grant { packed Grant 2 1 (vote_of 1 (eight_bytes 5) (eight_bytes 6))
+        ≡ Some (packed_vote_of (eight_bytes 5) 6) }
+    ensures another_node { packed Ask 2 1 (drop 10 ask_body) ∷ packed Grant 1 2 (drop 10 ask_body) ∷ []
+        ≡ None ∷ None ∷ [] }
+    ensures no_span { map (λ last. packed Ask 1 2 (vote_of 1 (eight_bytes 5) last))
+        (eight_bytes 4 ∷ eight_bytes 7 ∷ slice_set (eight_bytes 5) 6 1 ∷ []) ≡ None ∷ None ∷ None ∷ [] }
+    ensures lengths { map (λ len. packed Ask 1 2 (take len (drop 10 ask_body ++ 0 ∷ []))) (32 ∷ 33 ∷ 34 ∷ [])
+        ≡ None ∷ Some packed_ask ∷ None ∷ [] }
+    ensures others { map (λ kind. packed kind 1 2 (replicate 25 1)) (Deny ∷ Floor ∷ Floors ∷ [])
+        ≡ Some (replicate 25 1) ∷ Some (replicate 25 1) ∷ None ∷ [] }
+    ensures long { map (λ kind. packed kind 1 2 (replicate 26 1)) (Deny ∷ Floor ∷ []) ≡ None ∷ None ∷ [] }
+
+    ensures ask_again { unpacked Ask 1 2 packed_ask ≡ Some (drop 10 ask_body) }
+    ensures grant_again { unpacked Grant 2 1 (packed_vote_of (eight_bytes 5) 6)
+        ≡ Some (vote_of 1 (eight_bytes 5) (eight_bytes 6)) }
+    ensures over_255 { unpacked Grant 2 1 (packed_vote_of (eight_bytes 255) 0)
+        ≡ Some (vote_of 1 (eight_bytes 255) (slice_set (eight_bytes 0) 6 1)) }
+    ensures wrong_last { map (λ low. unpacked Ask 1 2 (packed_vote_of (eight_bytes 5) low)) (4 ∷ 7 ∷ [])
+        ≡ None ∷ None ∷ [] }
+    ensures lengths_again { map (λ len. unpacked Ask 1 2 (take len (packed_ask ++ 0 ∷ []))) (24 ∷ 25 ∷ 26 ∷ [])
+        ≡ None ∷ Some (drop 10 ask_body) ∷ None ∷ [] }
+    ensures others_again { map (λ kind. unpacked kind 1 2 (replicate 25 1)) (Deny ∷ Floor ∷ Floors ∷ [])
+        ≡ Some (replicate 25 1) ∷ Some (replicate 25 1) ∷ None ∷ [] }
+    ensures long_again { map (λ kind. unpacked kind 1 2 (replicate 26 1)) (Deny ∷ Floor ∷ []) ≡ None ∷ None ∷ [] }
+
+    ensures last { map (last_factor 511) (254 ∷ 255 ∷ 0 ∷ 1 ∷ []) ≡ None ∷ Some 511 ∷ Some 512 ∷ None ∷ [] }
+    ensures greatest { map (last_factor 18446744073709551615) (255 ∷ 0 ∷ [])
+        ≡ Some 18446744073709551615 ∷ None ∷ [] }
 {}
 
 /// Worked cases. The boots of members 1 and 3 at node 2.

@@ -20,7 +20,7 @@ pub enum Kind {
 
 impl Kind {
     /// Returns the byte of the kind.
-    pub(crate) fn byte(self) -> u8
+    pub fn byte(self) -> u8
         ensures { result ≡ spec.kind_byte self }
     {
         match self {

@@ -15,4 +15,4 @@ mod writing;
 pub use head::{Head, Kind};
 pub use laws::{datagrams_are_worked, heads_are_worked, one_spelling};
 pub use reading::read_datagram;
-pub use writing::{MAX_BODY_LEN, MAX_DATAGRAM_LEN, write_datagram};
+pub use writing::{MAX_BODY_LEN, MAX_DATAGRAM_LEN, write_datagram, write_parts};

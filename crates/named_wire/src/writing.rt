@@ -61,3 +61,27 @@ pub fn write_datagram<const CAP: usize>(
     push_all(&mut out, &tag);
     out
 }
+
+/// Returns the datagram of a head and a body in three parts, of at most 481 bytes together, under the cluster's key.
+///
+/// It is as [`write_datagram`], and copies each part once.
+#[tactic(auto, unfolding(crate::specs::Datagram::datagram_bytes))]
+pub fn write_parts<const CAP: usize>(
+    key: &ClusterKey,
+    head: Head,
+    first: &[u8],
+    second: &[u8],
+    third: &[u8],
+) -> ArrayVec<u8, CAP>
+    requires few { length first.now + length second.now + length third.now ≤ 481 }
+    requires room { length first.now + length second.now + length third.now + 30 ≤ CAP }
+    ensures { result.items ≡ datagram_bytes key.now head (first.now ++ second.now ++ third.now) }
+{
+    let mut out = head_text(head);
+    push_all(&mut out, first);
+    push_all(&mut out, second);
+    push_all(&mut out, third);
+    let tag = tag(key, &out);
+    push_all(&mut out, &tag);
+    out
+}

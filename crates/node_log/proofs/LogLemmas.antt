@@ -37,7 +37,7 @@ appends_more (Some x) (Some y) None text p q = absurd q
 appends_more (Some x) (Some y) (Some z) text p q = q ∙ ap (λ l. l ++ text) (p ∙ append-nil x)
 
 -- a text, followed by another one
-appends_both : (x y z : Option (List ℕ)) (first second : List ℕ) → Appends x y first → Appends y z second
+pub appends_both : (x y z : Option (List ℕ)) (first second : List ℕ) → Appends x y first → Appends y z second
     → Appends x z (first ++ second)
 appends_both None y z first second p q = tt
 appends_both (Some x) None z first second p q = absurd p

@@ -1,11 +1,12 @@
 -- Worked cases: lines, members, minutes and seconds.
-use Rattle.std.specs.Prelude.{ℕ, Bool, true, List, [], ◌∷◌, slice_set, codes}
+use Rattle.std.specs.Prelude.{ℕ, Bool, true, List, [], ◌∷◌, replicate, slice_set, codes}
 use Rattle.vote_core.specs.declared.message.Message.TheVariants.{Floor}
 use Rattle.vote_wire.specs.Datagram.{datagram_bytes}
 use Rattle.vote_wire.specs.Key.{bare}
 use Rattle.node_log.specs.Asked.{AskedLine}
 use Rattle.node_log.specs.Differing.{nobody}
 use Rattle.node_log.specs.declared.bad_lines.BadLines.{BadLines}
+use Rattle.node_log.specs.declared.gatekeeper.Fell.{Fell}
 use Rattle.node_log.specs.declared.members.Member.{Member}
 use Rattle.node_log.specs.declared.minute.Minute.{Minute}
 
@@ -32,6 +33,13 @@ made_by_2 = datagram_bytes bare 2 1 (Floor 0 5)
 -- a minute by its number of quiet turns
 abbrev pub minute : ℕ → Minute
 minute quiets = record { quiets = quiets }
+
+-- the floor of a token fell at member 3
+abbrev pub fell_3 : Fell
+fell_3 = record {
+  member = 3;
+  name = 0x01 ∷ 0x23 ∷ 0x45 ∷ 0x67 ∷ 0x89 ∷ 0xab ∷ 0xcd ∷ 0xef ∷ replicate 8 0x0a;
+}
 
 -- one member differs
 abbrev pub only : ℕ → List Bool

@@ -1,11 +1,13 @@
--- The minutes of a log: after each one it says which datagrams were not opened, which one had an older boot, and which
--- members differ.
+-- The minutes of a log: after each one it says which datagrams were not opened, which one had an older boot, whose
+-- floor fell, and which members differ.
 use Rattle.std.specs.Prelude.{ℕ, ◌+◌, ◌==◌, ◌&&◌, nat_lt, not, Bool, if◌then◌else◌, List, [], ◌++◌, Option, Some, None, codes}
 use Rattle.std.specs.Fmt.{decimal}
 use Rattle.datagram_port.specs.Port.{PortEvent, Received, Quiet, Faulted, Offered}
 use Rattle.sealed_port.specs.declared.cause.Unopened.{Unopened}
+use Rattle.hex.specs.Hex.{encode_lower}
 use Rattle.node_log.specs.Differing.{differing_text}
 use Rattle.node_log.specs.Text.{valued}
+use Rattle.node_log.specs.declared.gatekeeper.Fell.{Fell}
 use Rattle.node_log.specs.declared.gatekeeper.Older.{Older}
 use Rattle.node_log.specs.declared.minute.Minute.{Minute}
 
@@ -59,11 +61,25 @@ abbrev pub older_text : Option Older → List ℕ
 older_text None = []
 older_text (Some older) = older_line older
 
+-- the name of a token: two hexadecimal digits for each byte
+unfoldable pub token_text : List ℕ → List ℕ
+token_text name = codes " name=" ++ encode_lower name
+
+-- the line of a member whose floor of a token fell
+unfoldable pub fell_line : Fell → List ℕ
+fell_line fell = valued (codes "fell member=") fell.member ++ token_text fell.name ++ codes "\n"
+
+-- the line of such a member, or nothing if there is none
+abbrev pub fell_text : Option Fell → List ℕ
+fell_text None = []
+fell_text (Some fell) = fell_line fell
+
 -- the lines of the datagrams that a port passed over
-abbrev pub passed_over_text : Unopened → Option Older → List Bool → List ℕ
-passed_over_text unopened older differing = unopened_line unopened ++ older_text older ++ differing_text differing
+abbrev pub passed_over_text : Unopened → Option Older → Option Fell → List Bool → List ℕ
+passed_over_text unopened older fell differing =
+    unopened_line unopened ++ older_text older ++ fell_text fell ++ differing_text differing
 
 -- the text at the beginning of a receive: the lines of a minute that is over
-abbrev pub minute_text : Minute → Unopened → Option Older → List Bool → List ℕ
-minute_text minute unopened older differing =
-    if is_over minute then passed_over_text unopened older differing else []
+abbrev pub minute_text : Minute → Unopened → Option Older → Option Fell → List Bool → List ℕ
+minute_text minute unopened older fell differing =
+    if is_over minute then passed_over_text unopened older fell differing else []

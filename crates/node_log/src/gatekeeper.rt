@@ -18,6 +18,15 @@ pub struct Older {
     pub boot: u64,
 }
 
+/// A member whose floor of a token fell: it went back to an old store.
+#[derive(Clone, Copy, Debug, Default, PartialEq, Eq)]
+pub struct Fell {
+    /// The member.
+    pub member: u8,
+    /// The name of the token.
+    pub name: [u8; 16],
+}
+
 /// The number of places for members: member 0, which there is not, to member 9.
 pub const PLACES: usize = 10;
 
@@ -25,6 +34,7 @@ pub const PLACES: usize = 10;
 pub trait Gatekeeper: Port {
     ghost use Rattle.std.specs.Prelude.{◌≡◌, Bool, List, Option, None};
     ghost use Rattle.node_log.specs.Differing.{nobody};
+    ghost use Rattle.node_log.specs.declared.gatekeeper.Fell.{Fell as FellMember};
     ghost use Rattle.node_log.specs.declared.gatekeeper.Older.{Older as OlderDatagram};
     ghost use Rattle.sealed_port.specs.Causes.{nothing};
     ghost use Rattle.sealed_port.specs.declared.cause.Unopened.{Unopened as UnopenedCounts};
@@ -35,6 +45,9 @@ pub trait Gatekeeper: Port {
     // The last datagram of an older boot since it was last taken. By default the port drops none.
     ghost older: { Self → Option OlderDatagram } = { λ _. None };
 
+    // The first member whose floor fell that wasn't taken yet. By default the port sees no floors.
+    ghost fell: { Self → Option FellMember } = { λ _. None };
+
     // Whether it passed over a datagram of each member that it can't read since they were last taken, from member 0 to
     // 9. By default the port reads everything.
     ghost differing: { Self → List Bool } = { λ _. nobody };
@@ -44,6 +57,7 @@ pub trait Gatekeeper: Port {
         ensures numbers { result ≡ unopened self.old }
         ensures zero { unopened self.new ≡ nothing }
         ensures older { older self.new ≡ older self.old }
+        ensures fell { fell self.new ≡ fell self.old }
         ensures differing { differing self.new ≡ differing self.old }
         ensures events { Self.events self.new ≡ Self.events self.old }
         ensures stays { Self.setup self.new ≡ Self.setup self.old };
@@ -53,6 +67,16 @@ pub trait Gatekeeper: Port {
         ensures last { result ≡ older self.old }
         ensures none { older self.new ≡ None }
         ensures unopened { unopened self.new ≡ unopened self.old }
+        ensures fell { fell self.new ≡ fell self.old }
+        ensures differing { differing self.new ≡ differing self.old }
+        ensures events { Self.events self.new ≡ Self.events self.old }
+        ensures stays { Self.setup self.new ≡ Self.setup self.old };
+
+    /// Returns the first member whose floor of a token fell that no call returned before, or None.
+    fn take_fell(&mut self) -> Option<Fell>
+        ensures first { result ≡ fell self.old }
+        ensures unopened { unopened self.new ≡ unopened self.old }
+        ensures older { older self.new ≡ older self.old }
         ensures differing { differing self.new ≡ differing self.old }
         ensures events { Self.events self.new ≡ Self.events self.old }
         ensures stays { Self.setup self.new ≡ Self.setup self.old };
@@ -64,6 +88,7 @@ pub trait Gatekeeper: Port {
         ensures nobody { differing self.new ≡ nobody }
         ensures unopened { unopened self.new ≡ unopened self.old }
         ensures older { older self.new ≡ older self.old }
+        ensures fell { fell self.new ≡ fell self.old }
         ensures events { Self.events self.new ≡ Self.events self.old }
         ensures stays { Self.setup self.new ≡ Self.setup self.old };
 }
@@ -74,6 +99,10 @@ impl Gatekeeper for ListPort<'_> {
     }
 
     fn take_older(&mut self) -> Option<Older> {
+        None
+    }
+
+    fn take_fell(&mut self) -> Option<Fell> {
         None
     }
 
@@ -91,6 +120,10 @@ impl<R: TimeSource + Drop> Gatekeeper for UdpPort<R> {
         None
     }
 
+    fn take_fell(&mut self) -> Option<Fell> {
+        None
+    }
+
     fn take_differing(&mut self) -> [bool; PLACES] {
         [false; PLACES]
     }
@@ -104,6 +137,10 @@ impl<P: Port + Drop, C: Clock + Drop> Gatekeeper for SealedPort<P, C> {
     }
 
     fn take_older(&mut self) -> Option<Older> {
+        None
+    }
+
+    fn take_fell(&mut self) -> Option<Fell> {
         None
     }
 

@@ -3,12 +3,12 @@ ghost use Rattle.datagram_port.specs.Port.{Faulted, Offered, Quiet, Received};
 ghost use Rattle.datagram_port.specs.declared.port.Sender.TheVariants.{Client, Peer};
 ghost use Rattle.client_lines.specs.Request.{Request, request_at};
 ghost use Rattle.node_log.specs.Asked.{AskedLine, nonce_of, place_of, user_at, with_line, with_one, without};
-ghost use Rattle.node_log.specs.Examples.{ann, bob, made_by_2, member, minute, only, second, two_lines};
+ghost use Rattle.node_log.specs.Examples.{ann, bob, fell_3, made_by_2, member, minute, only, second, two_lines};
 ghost use Rattle.sealed_port.specs.Causes.{nothing};
 ghost use Rattle.node_log.specs.BadLines.{bad_lines_after, new_second};
 ghost use Rattle.node_log.specs.Differing.{differing_text, either, nobody};
 ghost use Rattle.node_log.specs.Members.{member_line};
-ghost use Rattle.node_log.specs.Minute.{minute_after, minute_at_receive, minute_text, new_minute, older_line, unopened_line};
+ghost use Rattle.node_log.specs.Minute.{fell_line, minute_after, minute_at_receive, minute_text, new_minute, older_line, unopened_line};
 ghost use Rattle.node_log.specs.Log.{Remembers, Tells, asked_after, asked_after_all, differing_after, differing_at_receive, members_after, told_of};
 ghost use Rattle.node_log.specs.Text.{answered_line, client_text, end_line, roster_line, shown_user, start_line};
 ghost use Rattle.vote_wire.specs.Key.{bare};
@@ -118,12 +118,16 @@ pub fn minutes_are_worked()
         ∷ record nothing { early = 1 } ∷ record nothing { again = 10 } ∷ record nothing { limited = 1 } ∷ nothing ∷ [])
         ≡ codes "unopened tag=12 late=3\n" ∷ codes "unopened form=1\n" ∷ codes "unopened early=1\n"
         ∷ codes "unopened again=10\n" ∷ codes "unopened limited=1\n" ∷ [] ∷ [] }
-    ensures told { map (λ quiets. minute_text (minute quiets) (record nothing { tag = 1 }) None nobody)
+    ensures told { map (λ quiets. minute_text (minute quiets) (record nothing { tag = 1 }) None None nobody)
         (299 ∷ 300 ∷ [])
         ≡ [] ∷ codes "unopened tag=1\n" ∷ [] }
     ensures older { older_line (record { member = 3; boot = 12 }) ≡ codes "older member=3 boot=12\n" }
-    ensures both { minute_text (minute 300) (record nothing { tag = 1 }) (Some (record { member = 2; boot = 7 })) nobody
+    ensures both { minute_text (minute 300) (record nothing { tag = 1 }) (Some (record { member = 2; boot = 7 })) None
+        nobody
         ≡ codes "unopened tag=1\nolder member=2 boot=7\n" }
+    ensures fell { fell_line fell_3 ≡ codes "fell member=3 name=0123456789abcdef0a0a0a0a0a0a0a0a\n" }
+    ensures fell_alone { map (λ quiets. minute_text (minute quiets) nothing None (Some fell_3) nobody) (299 ∷ 300 ∷ [])
+        ≡ [] ∷ codes "fell member=3 name=0123456789abcdef0a0a0a0a0a0a0a0a\n" ∷ [] }
     ensures nobody_differs { differing_text nobody ≡ [] }
     ensures differs { map differing_text (only 1 ∷ only 3 ∷ only 9 ∷ [])
         ≡ codes "differs member=1\n" ∷ codes "differs member=3\n" ∷ codes "differs member=9\n" ∷ [] }
@@ -131,9 +135,10 @@ pub fn minutes_are_worked()
         ≡ [] ∷ flat_map (member_line (codes "differs")) (1 ∷ 2 ∷ 3 ∷ 4 ∷ 5 ∷ 6 ∷ 7 ∷ 8 ∷ 9 ∷ []) ∷ [] }
     ensures two_differ { differing_text (slice_set (only 4) 2 true) ≡ codes "differs member=2\ndiffers member=4\n" }
     ensures all { minute_text (minute 300) (record nothing { tag = 1 }) (Some (record { member = 2; boot = 7 }))
-        (slice_set (only 4) 2 true)
-        ≡ codes "unopened tag=1\nolder member=2 boot=7\ndiffers member=2\ndiffers member=4\n" }
-    ensures differs_alone { map (λ quiets. minute_text (minute quiets) nothing None (only 3)) (299 ∷ 300 ∷ [])
+        (Some fell_3) (slice_set (only 4) 2 true)
+        ≡ codes "unopened tag=1\nolder member=2 boot=7\nfell member=3 name=0123456789abcdef0a0a0a0a0a0a0a0a\n"
+        ++ codes "differs member=2\ndiffers member=4\n" }
+    ensures differs_alone { map (λ quiets. minute_text (minute quiets) nothing None None (only 3)) (299 ∷ 300 ∷ [])
         ≡ [] ∷ codes "differs member=3\n" ∷ [] }
     ensures begins { map (λ quiets. minute_at_receive (minute quiets)) (299 ∷ 300 ∷ []) ≡ minute 299 ∷ minute 0 ∷ [] }
     ensures quiet { map (λ quiets. minute_after Quiet (minute quiets)) (0 ∷ 299 ∷ 300 ∷ [])

@@ -4,8 +4,8 @@
 //! line. It writes the line of an answer after the node offered it. Nothing that it keeps or writes has room for a
 //! code, a password or a secret (`codes_are_not_told`). A member is heard by datagrams that the node reads. Once a
 //! minute the port asks the one below, a [`Gatekeeper`], which datagrams it passed over. Then it writes their numbers,
-//! and from which members datagrams came that the node can't read. If a write fails, the log ends and the node
-//! continues.
+//! whose floor fell, and from which members datagrams came that the node can't read. If a write fails, the log ends and
+//! the node continues.
 #![tactic(auto)]
 
 mod asked;
@@ -24,7 +24,7 @@ mod text;
 
 pub use asked::{Asked, AskedLines, MAX_ASKED};
 pub use bad_lines::BadLines;
-pub use gatekeeper::{Gatekeeper, Older, PLACES};
+pub use gatekeeper::{Fell, Gatekeeper, Older, PLACES};
 pub use laws::{
     bad_lines_are_worked, codes_are_not_told, differing_are_worked, lines_are_worked,
     logs_can_be_broken, minutes_are_worked, records_are_worked, texts_are_worked,

@@ -14,7 +14,7 @@ ghost use Rattle.node_log.specs.Text.{end_line};
 use crate::asked::AskedLines;
 use crate::bad_lines::BadLines;
 use crate::differing::either;
-use crate::gatekeeper::{Older, PLACES};
+use crate::gatekeeper::{Fell, Older, PLACES};
 use crate::members::{Member, hear, rest, write_heard, write_silent};
 use crate::minute::{Minute, write_passed_over};
 use crate::text::{write_answered, write_end};
@@ -167,13 +167,14 @@ impl<W: Write + Drop> Log<W> {
         self.minute.is_over()
     }
 
-    /// Writes the line of the datagrams that were not opened, that of one of an older boot, and those of the members
-    /// that differ, if there are any. Those in `differing` differ, and those that were noted. Begins another minute, in
-    /// which nobody differs yet.
+    /// Writes the line of the datagrams that were not opened, that of one of an older boot, that of a member whose
+    /// floor fell, and those of the members that differ, if there are any. Those in `differing` differ, and those that
+    /// were noted. Begins another minute, in which nobody differs yet.
     pub fn passed_over(
         &mut self,
         unopened: Unopened,
         older: Option<Older>,
+        fell: Option<Fell>,
         differing: [bool; PLACES],
     )
         ensures asked { self.new.asked ≡ self.old.asked }
@@ -182,12 +183,14 @@ impl<W: Write + Drop> Log<W> {
         ensures differing { self.new.differing ≡ nobody }
         ensures bad_lines { self.new.bad_lines ≡ self.old.bad_lines }
         ensures told { Tells self.old.is_over self.new.is_over (W.contents self.old.writer) (W.contents self.new.writer)
-            (passed_over_text unopened older (either self.old.differing differing)) }
+            (passed_over_text unopened older fell (either self.old.differing differing)) }
     {
         let both = either(self.differing, &differing);
         self.minute = Minute::new();
         self.differing = [false; PLACES];
-        if !self.is_over && write_passed_over(&mut self.writer, &unopened, older, &both).is_err() {
+        if !self.is_over
+            && write_passed_over(&mut self.writer, &unopened, older, fell, &both).is_err()
+        {
             self.is_over = true;
         }
     }

@@ -5,9 +5,9 @@ ghost use Rattle.std.specs.Io.KnownBytes.{Appends};
 ghost use Rattle.std.specs.List.{flat_map};
 ghost use Rattle.datagram_port.specs.Port.{Quiet};
 ghost use Rattle.node_log.specs.Differing.{differing_text, differs_text};
-ghost use Rattle.node_log.specs.Minute.{causes_text, has_none, is_over, minute_after, new_minute, numbered, older_line, older_text, passed_over_text, unopened_line};
+ghost use Rattle.node_log.specs.Minute.{causes_text, fell_line, fell_text, has_none, is_over, minute_after, new_minute, numbered, older_line, older_text, passed_over_text, token_text, unopened_line};
 
-use crate::gatekeeper::{Older, PLACES};
+use crate::gatekeeper::{Fell, Older, PLACES};
 use crate::members::write_member;
 use crate::text::{write_small, write_value};
 use sealed_port::Unopened;
@@ -117,6 +117,36 @@ fn write_last_older<W: Write>(writer: &mut W, older: Option<Older>) -> io::Resul
     }
 }
 
+/// Writes the name of a token.
+#[tactic(auto, unfolding(crate::specs::Minute::token_text))]
+fn write_token<W: Write>(writer: &mut W, name: &[u8; 16]) -> io::Result<()>
+    ensures { OnOk result (Appends (W.contents writer.old) (W.contents writer.new) (token_text name.now)) }
+{
+    let mut digits = [0; 32];
+    hex::encode_to_slice(name, &mut digits).unwrap();
+    writer.write_all(b" name=")?;
+    writer.write_all(&digits)
+}
+
+/// Writes the line of a member whose floor of a token fell.
+fn write_fell<W: Write>(writer: &mut W, fell: Fell) -> io::Result<()>
+    ensures { OnOk result (Appends (W.contents writer.old) (W.contents writer.new) (fell_line fell)) }
+{
+    write_small(writer, b"fell member=", fell.member)?;
+    write_token(writer, &fell.name)?;
+    writer.write_all(b"\n")
+}
+
+/// Writes the line of a member whose floor fell, or nothing if there is none.
+fn write_first_fell<W: Write>(writer: &mut W, fell: Option<Fell>) -> io::Result<()>
+    ensures { OnOk result (Appends (W.contents writer.old) (W.contents writer.new) (fell_text fell)) }
+{
+    match fell {
+        Some(fell) => write_fell(writer, fell),
+        None => Ok(()),
+    }
+}
+
 /// Writes the line of a member, or nothing if it doesn't differ.
 fn write_if_differs<W: Write>(
     writer: &mut W,
@@ -160,12 +190,14 @@ pub(crate) fn write_passed_over<W: Write>(
     writer: &mut W,
     unopened: &Unopened,
     older: Option<Older>,
+    fell: Option<Fell>,
     differing: &[bool; PLACES],
 ) -> io::Result<()>
     ensures { OnOk result (Appends (W.contents writer.old) (W.contents writer.new)
-        (passed_over_text unopened.now older differing.now)) }
+        (passed_over_text unopened.now older fell differing.now)) }
 {
     write_unopened(writer, unopened)?;
     write_last_older(writer, older)?;
+    write_first_fell(writer, fell)?;
     write_differing(writer, differing)
 }

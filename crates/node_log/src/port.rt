@@ -24,7 +24,8 @@ use vote_wire::ClusterKey;
 ///
 /// A member is heard by a datagram that it made under the node's key. The port writes a line after the node offered the
 /// answer, and flushes the log before the next wait. Once a minute it writes how many datagrams the port below didn't
-/// open, the last one of an older boot, and the members from whose addresses other datagrams came, if there are any.
+/// open, the last one of an older boot, a member whose floor fell, and the members from whose addresses other datagrams
+/// came, if there are any.
 #[derive(Drop)]
 pub struct LogPort<'k, P: Gatekeeper + Drop, W: Write + Drop> {
     port: P,
@@ -80,14 +81,15 @@ impl<'k, P: Gatekeeper + Drop, W: Write + Drop> LogPort<'k, P, W> {
         ensures bad_lines { self.new.log.bad_lines ≡ self.old.log.bad_lines }
         ensures told { Tells self.old.log.is_over self.new.log.is_over (W.contents self.old.log.writer)
             (W.contents self.new.log.writer)
-            (minute_text self.old.log.minute (P.unopened self.old.port) (P.older self.old.port)
+            (minute_text self.old.log.minute (P.unopened self.old.port) (P.older self.old.port) (P.fell self.old.port)
             (either self.old.log.differing (P.differing self.old.port))) }
     {
         if self.log.is_minute_over() {
             let unopened = self.port.take_unopened();
             let older = self.port.take_older();
+            let fell = self.port.take_fell();
             let differing = self.port.take_differing();
-            self.log.passed_over(unopened, older, differing);
+            self.log.passed_over(unopened, older, fell, differing);
         }
     }
 
@@ -171,7 +173,7 @@ impl<P: Gatekeeper + Drop, W: Write + Drop> Port for LogPort<'_, P, W> {
         ensures stays { P.setup self.new.port ≡ P.setup self.old.port }
         ensures told { Tells self.old.log.is_over self.new.log.is_over (W.contents self.old.log.writer)
             (W.contents self.new.log.writer)
-            (minute_text self.old.log.minute (P.unopened self.old.port) (P.older self.old.port)
+            (minute_text self.old.log.minute (P.unopened self.old.port) (P.older self.old.port) (P.fell self.old.port)
             (either self.old.log.differing (P.differing self.old.port))
             ++ told_of self.old.key.now (event_of_receive result buffer.new) self.old.log.asked
             self.old.log.members.items self.old.log.bad_lines) }

@@ -1,6 +1,6 @@
 //! Logs over ports in memory.
 
-use crate::{Log, LogPort, Member, Older};
+use crate::{Fell, Log, LogPort, Member, Older};
 use arrayvec::ArrayVec;
 use datagram_port::{Coming, ListClock, ListPort, Port, Sender};
 use otp_core::Next;
@@ -48,7 +48,13 @@ fn log_of_gate<'a>(
 ) -> Result<Vec<u8>, Fail> {
     let mut text = Vec::new(alloc);
     let key = ClusterKey::bare();
-    let gate = Gate::new(1, Vec::new(alloc), Vec::new(alloc), Failures::new(None));
+    let gate = Gate::new(
+        1,
+        Vec::new(alloc),
+        Vec::new(alloc),
+        Vec::new(alloc),
+        Failures::new(None),
+    );
     let port = SealedPort::new(
         ListPort::new(alloc, comings),
         ListClock::new(alloc, &[]),
@@ -78,26 +84,38 @@ fn tells_the_unopened_once(rt: HostRuntime) -> Result<(), Fail> {
     Ok(())
 }
 
-/// Returns the log of a minute in which the members 2 and 4 differ, after a datagram of an older boot if there was any.
-fn log_of_differing(alloc: Global, older: Option<Older>) -> Result<Vec<u8>, Fail> {
+/// Returns the log of a minute in which the members 2 and 4 differ, after a datagram of an older boot and a fall if there
+/// were any.
+fn log_of_differing(
+    alloc: Global,
+    older: Option<Older>,
+    fell: Option<Fell>,
+) -> Result<Vec<u8>, Fail> {
     let mut text = Vec::new(alloc);
     let mut log = Log::new(&mut text, ArrayVec::new());
     let mut differing = [false; 10];
     differing[2] = true;
     differing[4] = true;
-    log.passed_over(Unopened::new(), older, differing);
-    log.passed_over(Unopened::new(), None, [false; 10]);
+    log.passed_over(Unopened::new(), older, fell, differing);
+    log.passed_over(Unopened::new(), None, None, [false; 10]);
     drop(log);
     Ok(text)
 }
 
-/// Each member that differs has a line, after that of an older boot.
+/// Each member that differs has a line, after those of an older boot and of a fall.
 #[test]
 fn tells_who_differs(rt: HostRuntime) -> Result<(), Fail> {
-    let text = log_of_differing(rt.alloc(), None)?;
+    let text = log_of_differing(rt.alloc(), None, None)?;
     assert!(rt; text.as_slice() == b"differs member=2\ndiffers member=4\n".as_slice());
-    let text = log_of_differing(rt.alloc(), Some(Older { member: 3, boot: 7 }))?;
+    let older = Some(Older { member: 3, boot: 7 });
+    let text = log_of_differing(rt.alloc(), older, None)?;
     assert!(rt; text.starts_with(b"older member=3 boot=7\ndiffers member=2\n"));
+    let mut name = [0; 16];
+    name[0] = 0x1f;
+    let text = log_of_differing(rt.alloc(), older, Some(Fell { member: 4, name }))?;
+    assert!(rt; text.starts_with(b"older member=3 boot=7\nfell member=4 name=1f000000"));
+    assert!(rt; text.ends_with(b"00000000\ndiffers member=2\ndiffers member=4\n"));
+    assert!(rt; text.len() == 22 + 52 + 34);
     Ok(())
 }
 

@@ -2,7 +2,7 @@
 
 use datagram_port::{Coming, ListClock, ListPort, PortEntry, Sender};
 use floor_store::{FloorStore, FuseStore, MemStore};
-use oath_node::{Node, ServeFault, Served, run_turns};
+use oath_node::{Node, ServeFault, Served, Until, run_turns, run_turns_until};
 use otp_core::{Next, Settings};
 use std::alloc::Global;
 use std::test::Fail;
@@ -273,5 +273,45 @@ fn turns_tick_and_end(rt: HostRuntime) -> Result<(), Fail> {
             "{turns}"
         );
     }
+    Ok(())
+}
+
+/// Ends the turns after the second batch, and keeps what it was told last.
+#[derive(Drop, Default)]
+struct Second {
+    batches: u8,
+    left: u64,
+    is_waiting: bool,
+}
+
+impl Until for Second {
+    fn ends(&mut self, left: u64, is_waiting: bool) -> bool {
+        self.batches = self.batches.saturating_add(1);
+        self.left = left;
+        self.is_waiting = is_waiting;
+        self.batches == 2
+    }
+}
+
+/// Checks that turns end after the batch at which they are told to, while a line waits for votes.
+#[test]
+fn turns_end_early(rt: HostRuntime) -> Result<(), Fail> {
+    let alloc = rt.alloc();
+    let key = ClusterKey::new(&[0; 32]).ok_or("a key")?;
+    let (book, floors) = silver(alloc)?;
+    let store = store_of(alloc, &book, &floors)?;
+    let mut node = first_of(alloc, 3, &book, &key, store)?;
+    let line = Coming::Datagram {
+        sender: Sender::Client(7),
+        bytes: b"CHECK 1 silver 755224 -",
+    };
+    let comings = [line, Coming::Quiet];
+    let mut port = ListPort::new(alloc, &comings);
+    let mut clock = ListClock::new(alloc, &[100]);
+    let mut until = Second::default();
+    let end = run_turns_until(&mut node, &mut port, &mut clock, 5, &mut until);
+    assert!(rt; end.ok().map(|served| served.received) == Some(1));
+    assert!(rt; until.batches == 2 && until.left == 3 && until.is_waiting);
+    assert!(rt; node.is_waiting());
     Ok(())
 }

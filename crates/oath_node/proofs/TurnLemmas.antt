@@ -1,12 +1,12 @@
 -- What batches do, one after the other.
-use Rattle.std.proofs.Common.{◌≡◌, ℕ, ◌+◌, ◌*◌, ◌^◌, ◌<◌, ◌≤◌, List, [], ◌∷◌, ◌++◌, length, map, refl, sym, ap, ◌∙◌, subst, arith, length-append}
-use Rattle.std.specs.Prelude.{Option, None, Result, Ok, Err}
+use Rattle.std.proofs.Common.{◌≡◌, inl, inr, Bool, false, ℕ, ◌+◌, ◌*◌, ◌^◌, ◌<◌, ◌≤◌, List, [], ◌∷◌, ◌++◌, length, map, refl, sym, ap, ◌∙◌, subst, arith, length-append}
+use Rattle.std.specs.Prelude.{◌⊎◌, Option, None, Result, Ok, Err}
 use Rattle.std.specs.Option.{option_map}
 use Rattle.std.proofs.lemmas.List.{append_assoc, append-nil, map-append}
 use Rattle.floor_store.specs.Held.{Held, IsSettled}
-use Rattle.oath_node.specs.Hosted.{Hosted, IsSameNode, state_of}
+use Rattle.oath_node.specs.Hosted.{Hosted, IsSameNode, is_waiting, state_of}
 use Rattle.datagram_port.specs.Port.{Grows, PortEvent}
-use Rattle.oath_node.specs.TurnServing.{EndsByClock, EndsSettled, EndsSo, Serves, Stands, run_over, served_in}
+use Rattle.oath_node.specs.TurnServing.{EndsByClock, EndsSettled, EndsSo, EndsTurns, Serves, ServesUntil, Stands, run_over, served_in}
 use Rattle.oath_node.specs.TurnSteps.{BatchEnds, IsClean, IsOf, Scene, StepsBatch, TakesBatch}
 use Rattle.oath_node.specs.Turns.{AreBatches, GoesOn, IsBatch, Member, Receipt, Run, entry_of, member_of, moments_for, moments_in, received_after, received_with, receipts_in, receives_in, run_at, run_with_batch, run_with_batches, while_going}
 use Rattle.oath_node.specs.declared.serve_fault.ServeFault.{ServeFault}
@@ -266,6 +266,65 @@ serves_less held old first asked count left turns now new told said fault below 
       settled = λ clean settled. settled_so ℕ Served (held new.node.store) fault (t.settled clean);
       same = same_trans old now.node new.node h.same t.same;
     }
+
+-- a fault ends the turns
+pub serves_until_fault : {S : Type 0} (held : S → Held) (old new : Hosted S) (first entries : Option (List PortEvent))
+    (asked told : Option (List (Option ℕ))) (turns : ℕ) (answers : ℕ → Bool → Bool → Type 0) (fault : ServeFault)
+    → Serves held old new first entries asked told turns (Err fault)
+    → ServesUntil held old new first entries asked told turns answers (Err fault)
+serves_until_fault held old new first entries asked told turns answers fault serves =
+    record { most = turns; within = omega arith; ends = tt; serves = serves }
+
+-- an answer ends the turns, or none is left
+pub serves_until_end : {S : Type 0} (held : S → Held) (old : Hosted S) (first : Option (List PortEvent))
+    (asked : Option (List (Option ℕ))) (count left turns : ℕ) (now : Scene S) (told : Option (List (Option ℕ)))
+    (answers : ℕ → Bool → Bool → Type 0) (is_early : Bool) → turns < 2 ^ 54 → count + left ≡ turns
+    → IsSoFar held old first asked count now told
+    → (turns ≡ 0) ⊎ ((0 < count) × answers left (is_waiting now.node) is_early) → (is_early ≡ false → left ≡ 0)
+    → ServesUntil held old now.node first now.entries asked told turns answers (Ok (served_in now.tally))
+serves_until_end held old first asked count left turns now told answers is_early below sum h last all = record {
+  most = count;
+  within = omega (arith, sum);
+  ends = record { left = left; sum = sum; is_early = is_early; asked = last; all = all };
+  serves = serves_all held old first asked count now told (omega (arith, below, sum)) h;
+}
+
+all_served : (turns most : ℕ) → EndsTurns turns most (λ _ ends. ends ≡ false) → most ≡ turns
+all_served turns most h =
+    let sum = h.sum in
+    elim h.asked [
+      | inl none ↦ omega (arith, sum, none)
+      | inr last ↦ let left = h.all last.1 in omega (arith, sum, left)
+    ]
+
+-- of a fault it is also told that more turns were given
+more_turns : {S : Type 0} (held : S → Held) (old new : Hosted S) (first entries : Option (List PortEvent))
+    (asked told : Option (List (Option ℕ))) (most turns : ℕ) (fault : ServeFault) → most ≤ turns
+    → Serves held old new first entries asked told most (Err fault)
+    → Serves held old new first entries asked told turns (Err fault)
+more_turns held old new first entries asked told most turns fault within h =
+    let few = h.most in
+    record {
+      batches = h.batches;
+      formed = h.formed;
+      moments = h.moments;
+      receives = h.receives;
+      most = omega (arith, few, within);
+      all = tt;
+      exact = h.exact;
+      settled = h.settled;
+      same = h.same;
+    }
+
+-- a call that never ends early serves all turns
+pub serves_never : {S : Type 0} (held : S → Held) (old new : Hosted S) (first entries : Option (List PortEvent))
+    (asked told : Option (List (Option ℕ))) (turns : ℕ) (result : Result Served ServeFault)
+    → ServesUntil held old new first entries asked told turns (λ _ _ ends. ends ≡ false) result
+    → Serves held old new first entries asked told turns result
+serves_never held old new first entries asked told turns (Ok served) h =
+    let all : h.most ≡ turns = all_served turns h.most h.ends in
+    subst (λ (n : ℕ). Serves held old new first entries asked told n (Ok served)) all h.serves
+serves_never held old new first entries asked told turns (Err fault) h = more_turns held old new first entries asked told h.most turns fault h.within h.serves
 
 batch_of_going : (x : Receipt) (xs : List Receipt) (n : ℕ) → GoesOn n (x ∷ xs) → IsBatch n (x ∷ xs)
 batch_of_going x [] n h = record { before = []; last = x; is = refl; goes_on = tt }

@@ -1,5 +1,5 @@
 -- The view of a node over a store in contracts, and its machine.
-use Rattle.std.specs.Prelude.{◌≡◌, ◌≢◌, ℕ, ◌<◌, Bool, true, List, [], ◌∷◌, length, Option, None}
+use Rattle.std.specs.Prelude.{◌≡◌, ◌≢◌, ◌==◌, ℕ, ◌<◌, Bool, not, true, List, [], ◌∷◌, length, Option, None}
 use Rattle.std.specs.Option.{option_map}
 use Rattle.otp_core.specs.Limits.{Limits}
 use Rattle.token_file.specs.Credential.{Credential}
@@ -44,6 +44,10 @@ state_of held node = record {
   answers = node.answers;
   running = node.running;
 }
+
+-- a client's line waits for votes
+abbrev pub is_waiting : {S : Type 0} → Hosted S → Bool
+is_waiting node = not (length node.owners == 0)
 
 -- the configuration of the machine
 abbrev pub config_of : {S : Type 0} → Hosted S → Config

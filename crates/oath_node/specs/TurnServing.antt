@@ -1,10 +1,10 @@
 -- The effects of a run of turns on a node, its port and its clock.
-use Rattle.std.specs.Prelude.{◌≡◌, ⊤, ℕ, ◌<◌, ◌≤◌, List, [], ◌∷◌, ◌++◌, length, map, take, Option, Some, None, Result, Ok, Err, OnOk}
+use Rattle.std.specs.Prelude.{◌≡◌, ◌⊎◌, ⊤, ℕ, ◌+◌, ◌<◌, ◌≤◌, Bool, false, List, [], ◌∷◌, ◌++◌, length, map, take, Option, Some, None, Result, Ok, Err, OnOk}
 use Rattle.std.specs.Option.{option_map}
 use Rattle.floor_store.specs.Content.{Content}
 use Rattle.floor_store.specs.Held.{Held, IsSettled}
 use Rattle.oath_node.specs.Calls.{CommitsNode, Takes}
-use Rattle.oath_node.specs.Hosted.{Hosted, IsSameNode, state_of}
+use Rattle.oath_node.specs.Hosted.{Hosted, IsSameNode, is_waiting, state_of}
 use Rattle.oath_node.specs.Machine.{NodeEvent}
 use Rattle.oath_node.specs.declared.fault.NodeFault.{NodeFault}
 use Rattle.datagram_port.specs.Port.{Grows, PortEvent}
@@ -122,3 +122,25 @@ pub record EndsByClock {S : Type 0} (held : S → Held) (old new : Hosted S) (fi
   pub kept : Option (List PortEvent)
   pub told : Option (List (Option ℕ))
   pub before : Serves held old new first kept asked told count (Ok served)
+
+-- ---- A call that may end early
+
+-- `most` of the given number of turns are served. `answers` holds for the number that is left and for the last answer
+-- to whether the turns end there. If that was no, none is left.
+pub record EndsTurns (turns most : ℕ) (answers : ℕ → Bool → Type 0) : Type 0 where
+  pub left : ℕ
+  pub sum : most + left ≡ turns
+  pub is_early : Bool
+  -- without turns there was no question
+  pub asked : (turns ≡ 0) ⊎ ((0 < most) × answers left is_early)
+  pub all : is_early ≡ false → left ≡ 0
+
+-- A call that serves a node for `turns` turns, or ends early. `answers` holds for the number of turns that are left, for
+-- whether a client's line waits then, and for the last answer. All else is as `Serves` has it.
+pub record ServesUntil {S : Type 0} (held : S → Held) (old new : Hosted S) (first entries : Option (List PortEvent))
+    (asked told : Option (List (Option ℕ))) (turns : ℕ) (answers : ℕ → Bool → Bool → Type 0)
+    (result : Result Served ServeFault) : Type 0 where
+  pub most : ℕ
+  pub within : most ≤ turns
+  pub ends : OnOk result (EndsTurns turns most (λ left. answers left (is_waiting new)))
+  pub serves : Serves held old new first entries asked told most result

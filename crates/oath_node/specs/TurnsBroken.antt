@@ -8,6 +8,7 @@ use Rattle.vote_core.specs.declared.message.Message.TheVariants.{Floor}
 use Rattle.vote_wire.specs.Datagram.{datagram_bytes}
 use Rattle.oath_node.specs.Cases.{idle_node}
 use Rattle.oath_node.specs.Hosted.{Hosted, state_of}
+use Rattle.oath_node.specs.Machine.{Owner}
 use Rattle.oath_node.specs.declared.fault.NodeFault.{NodeFault}
 use Rattle.oath_node.specs.declared.fault.NodeFault.TheVariants.{Store as StoreFailed}
 use Rattle.datagram_port.specs.Port.{PortEvent, Received, Offered}
@@ -64,3 +65,7 @@ store_failed = StoreFailed Disk
 -- an empty record of a port or a clock
 abbrev pub nothing_yet : {A : Type 0} → Option (List A)
 nothing_yet = Some []
+
+-- the owner of a proposal for a line of client 7
+abbrev pub a_line : Owner
+a_line = record { seq = 0; client = 7; line = []; nonce = [] }

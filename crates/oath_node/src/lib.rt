@@ -58,6 +58,7 @@ mod server;
 mod settling;
 mod turn_laws;
 mod turns;
+mod until;
 
 pub use answer_ring::{Answers, Count, Kept};
 pub use client_line::ClientLine;
@@ -80,7 +81,9 @@ pub use ruling::{KeptText, Ruling};
 pub use serve_fault::ServeFault;
 pub use server::LineServer;
 pub use turn_laws::{
-    batches_are_turns, batches_are_worked, differences_are_seen, ends_can_be_broken,
-    entries_are_worked, faults_change_no_offer, turns_are_worked, turns_can_be_broken,
+    batches_are_turns, batches_are_worked, differences_are_seen, early_ends_can_be_broken,
+    ends_can_be_broken, entries_are_worked, faults_change_no_offer, turns_are_worked,
+    turns_can_be_broken,
 };
-pub use turns::{Served, TURNS_END, offer, run_turns};
+pub use turns::{Served, TURNS_END, offer, run_turns, run_turns_until};
+pub use until::{Never, Until};

@@ -2,7 +2,7 @@
 
 ghost use Rattle.std.specs.Prelude.{◌≡◌, ◌⊎◌, ◌≤◌, ◌↔◌, Err, IfErr, IfOk, OnOk, true, false, length};
 ghost use Rattle.oath_node.specs.Calls.{CommitsNode, Handles, IsOpened, IsRefused, Restarts, Takes};
-ghost use Rattle.oath_node.specs.Hosted.{envelope_at, event_of};
+ghost use Rattle.oath_node.specs.Hosted.{envelope_at, event_of, is_waiting};
 ghost use Rattle.oath_node.specs.Machine.{Client, Peer, Tick};
 ghost use Rattle.oath_node.specs.declared.fault.NodeFault.{NodeFault};
 ghost use Rattle.vote_core.specs.State.{IsPlace};
@@ -285,6 +285,13 @@ impl<'b, S: FloorStore> Node<'b, S> {
         ensures tokens { length (S.held self.now.store).content.rows ≡ length self.now.book }
     {
         &self.parts.store
+    }
+
+    /// Returns whether a client's line waits for votes.
+    pub fn is_waiting(&self) -> bool
+        ensures { result ≡ is_waiting self.now }
+    {
+        !self.parts.owners.is_empty()
     }
 
     /// Returns whether the node runs: no fault has stopped it since it was opened or restarted.

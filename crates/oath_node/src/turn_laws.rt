@@ -1,8 +1,9 @@
 ghost use Rattle.std.specs.Prelude.{◌≡◌, ℕ, ◌≤◌, length, ◌∷◌, [], ◌++◌, List, Some, None, false, replicate, true};
 ghost use Rattle.floor_store.specs.Broken.{booted, broken_at, fallen_at, small_held, store_at, unsettled_at};
+ghost use Rattle.oath_node.specs.Hosted.{is_waiting};
 ghost use Rattle.oath_node.specs.Broken.{failed_node, node_of_three, node_over, noise as peer_noise, small_node, stopped};
-ghost use Rattle.oath_node.specs.TurnsBroken.{bad_line_replied, ended_by, entries_of, entries_of_batches, floor_told, lines_replied, no_line_came, nothing_yet, run_from, served, store_failed};
-ghost use Rattle.oath_node.specs.TurnServing.{EndsByClock, EndsSettled, EndsSo, FailsAfter, FailsAmong, FailsNext, IsAmong, LeavesAmong, Serves, Stands};
+ghost use Rattle.oath_node.specs.TurnsBroken.{a_line, bad_line_replied, ended_by, entries_of, entries_of_batches, floor_told, lines_replied, no_line_came, nothing_yet, run_from, served, store_failed};
+ghost use Rattle.oath_node.specs.TurnServing.{EndsByClock, EndsSettled, EndsSo, EndsTurns, FailsAfter, FailsAmong, FailsNext, IsAmong, LeavesAmong, Serves, Stands};
 ghost use Rattle.oath_node.specs.declared.fault.NodeFault.TheVariants.{Spent as NoNumber};
 ghost use Rattle.oath_node.specs.TurnExamples.{batches_of, going_with, line_without_moment, no_line, noise, order_of, run_of};
 ghost use Rattle.oath_node.specs.Cases.{first_line, idle_node, line};
@@ -256,4 +257,18 @@ pub fn ends_can_be_broken()
     ensures fails_of_no_event { (member : Member) → FailsAmong small_held nothing_yet member
         (run_from (node_of_three 4611686018427387904)) [] (stopped (node_of_three 4611686018427387904)) nothing_yet
         NoNumber → ⊥ }
+{}
+
+/// Counterexamples: each promise of turns that an answer may end early fails for a minimal one. A line waits or none.
+pub fn early_ends_can_be_broken()
+    ensures whole { EndsTurns 5 5 (λ left ends. (left ≡ 0) × (ends ≡ false)) }
+    ensures part { EndsTurns 5 3 (λ left ends. (left ≡ 2) × (ends ≡ true)) }
+    ensures no_turns { EndsTurns 0 0 (λ left ends. ⊥) }
+    ensures part_without_an_end { EndsTurns 5 3 (λ left ends. ends ≡ false) → ⊥ }
+    ensures part_without_an_answer { EndsTurns 5 3 (λ left ends. ⊥) → ⊥ }
+    ensures part_of_another_number { EndsTurns 5 3 (λ left ends. left ≡ 1) → ⊥ }
+    ensures no_part { EndsTurns 5 0 (λ left ends. ends ≡ true) → ⊥ }
+    // a client's line waits
+    ensures nothing_waits { is_waiting (node_over (store_at 0) []) ≡ false }
+    ensures one_waits { is_waiting (record (node_over (store_at 0) []) { owners = a_line ∷ [] }) ≡ true }
 {}

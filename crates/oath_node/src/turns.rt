@@ -4,7 +4,7 @@ ghost use Rattle.std.specs.Prelude.{◌≡◌, ◌↔◌, ◌<◌, ◌≤◌, �
 ghost use Rattle.arrayvec.specs.ArrayVec.{array_vec_len};
 ghost use Rattle.floor_store.specs.Held.{IsSettled};
 ghost use Rattle.datagram_port.specs.Port.{Grows, IsWithin, event_of_receive};
-ghost use Rattle.oath_node.specs.TurnServing.{EndsByClock, Serves};
+ghost use Rattle.oath_node.specs.TurnServing.{EndsByClock, Serves, ServesUntil, served_in};
 ghost use Rattle.oath_node.specs.TurnSteps.{GathersBatch, SettlesBatch, TakesBatch, TakesDatagram, TakesReceived, TakesTick, items_in, reply_count, scene, ticks_of};
 ghost use Rattle.oath_node.specs.Turns.{offer_of};
 
@@ -14,6 +14,7 @@ use crate::item::Item;
 use crate::node::Node;
 use crate::outputs::{Outputs, Scratch};
 use crate::serve_fault::ServeFault;
+use crate::until::{Never, Until};
 use arrayvec::ArrayVec;
 use datagram_port::{Clock, MAX_DATAGRAM_LEN, Port, Received, Sender};
 use floor_store::FloorStore;
@@ -280,27 +281,39 @@ fn take_batch<'b, S: FloorStore, P: Port, C: Clock>(
     }
 }
 
-/// Serves a node over a port for `turns` turns, fewer than [`TURNS_END`]. A turn is a receive, or a poll that finds
-/// something.
+/// Returns the counts of a run so far.
+fn counts_of(tally: &Tally) -> Served
+    ensures { result ≡ served_in tally.now }
+{
+    Served {
+        received: tally.received,
+        replied: tally.replied,
+    }
+}
+
+/// Serves a node over a port for `turns` turns, fewer than [`TURNS_END`], or until `until` ends them. A turn is a
+/// receive, or a poll that finds something.
 ///
 /// The node takes each datagram, a client's with the clock's current time. A tick follows a quiet turn and each 64th
 /// datagram. Datagrams that are already queued join the batch. The node commits the batch once. Only then are its
-/// outputs offered to the port, in order. An output that the port refuses is lost. Does not allocate.
+/// outputs offered to the port, in order. An output that the port refuses is lost. After each batch `until` is asked
+/// whether the turns end. Does not allocate.
 ///
 /// # Errors
 /// - Returns `Node` if the node returns a fault. The port gets no output of that batch.
 /// - Returns `Port` at the 16th consecutive fault of the port.
 /// - Returns `Clock` if the clock tells no time. The node doesn't take that datagram, but serves those received before
 ///   it.
-pub fn run_turns<'b, S: FloorStore, P: Port, C: Clock>(
+pub fn run_turns_until<'b, S: FloorStore, P: Port, C: Clock, U: Until>(
     node: &mut Node<'b, S>,
     port: &mut P,
     clock: &mut C,
     turns: u64,
+    until: &mut U,
 ) -> Result<Served, ServeFault>
     requires few { turns < 2 ^ 54 }
-    ensures serves { Serves S.held node.old node.new (P.events port.old) (P.events port.new)
-        (C.moments clock.old) (C.moments clock.new) turns result }
+    ensures serves { ServesUntil S.held node.old node.new (P.events port.old) (P.events port.new)
+        (C.moments clock.old) (C.moments clock.new) turns (U.answers until.new) result }
     // a failure of the clock leaves the node unchanged, over any store
     ensures clock { result ≡ Err ServeFault.Clock
         → EndsByClock S.held node.old node.new (P.events port.old) (C.moments clock.old) turns }
@@ -320,9 +333,30 @@ pub fn run_turns<'b, S: FloorStore, P: Port, C: Clock>(
             &mut tally,
             left,
         )?;
+        if until.ends(left, node.is_waiting()) {
+            return Ok(counts_of(&tally));
+        }
     }
-    Ok(Served {
-        received: tally.received,
-        replied: tally.replied,
-    })
+    Ok(counts_of(&tally))
+}
+
+/// Serves a node over a port for `turns` turns, fewer than [`TURNS_END`], as [`run_turns_until`] does. No turn is left.
+///
+/// # Errors
+/// Returns the errors of [`run_turns_until`].
+pub fn run_turns<'b, S: FloorStore, P: Port, C: Clock>(
+    node: &mut Node<'b, S>,
+    port: &mut P,
+    clock: &mut C,
+    turns: u64,
+) -> Result<Served, ServeFault>
+    requires few { turns < 2 ^ 54 }
+    ensures serves { Serves S.held node.old node.new (P.events port.old) (P.events port.new)
+        (C.moments clock.old) (C.moments clock.new) turns result }
+    // a failure of the clock leaves the node unchanged, over any store
+    ensures clock { result ≡ Err ServeFault.Clock
+        → EndsByClock S.held node.old node.new (P.events port.old) (C.moments clock.old) turns }
+    ensures stays { P.setup port.new ≡ P.setup port.old }
+{
+    run_turns_until(node, port, clock, turns, &mut Never)
 }

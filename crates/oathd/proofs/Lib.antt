@@ -3,3 +3,4 @@ mod ServeLemmas
 mod NamedLemmas
 mod WordsLemmas
 mod DoneLemmas
+mod ReloadLemmas

@@ -1,7 +1,7 @@
 -- The effects of the commands over a database, by their words.
 --
 -- Floor: the first free factor of a token at a node.
-use Rattle.std.specs.Prelude.{◌≡◌, ℕ, List, length, Option, None, Some, Ok}
+use Rattle.std.specs.Prelude.{◌≡◌, ℕ, Bool, true, false, List, length, Option, None, Some, Ok}
 use Rattle.std.specs.Option.{option_map}
 use Rattle.std.specs.Io.KnownBytes.{Appends}
 use Rattle.sqlite.specs.Store.{Ghosts}
@@ -13,6 +13,8 @@ use Rattle.vote_core.specs.NodeSet.{PlaceRecord}
 use Rattle.floor_sql.specs.Held.{SqlHeld}
 use Rattle.cluster_file.specs.ClusterFile.{ClusterRecord, cluster_of}
 use Rattle.oathd_words.specs.declared.former_words.CountWords.TheVariants as counts
+use Rattle.oathd_words.specs.declared.store_words.ClientWords.{ClientWords}
+use Rattle.oathd_words.specs.declared.store_words.ClusterWords.{ClusterWords}
 use Rattle.oathd_words.specs.declared.former_words.FormerWords.{FormerWords}
 use Rattle.oathd_words.specs.declared.store_words.Action.{Action}
 use Rattle.oathd_words.specs.declared.store_words.Action.TheVariants.{Init, Remake, Serve, Export, Audit, Migrate, Floors, Level, Gates, Unlock}
@@ -29,7 +31,8 @@ use Rattle.oathd_database.specs.declared.lost.LostNode.{LostNode}
 use Rattle.oathd_database.specs.declared.serving.Serving.{Serving}
 use Rattle.oathd_roster.specs.declared.cluster.NamedCluster.{NamedCluster}
 use Rattle.oathd_tasks.specs.Check.{IsKeyIn}
-use Rattle.oathd.specs.Named.{AreNamedFloorsTold, IsActDone, IsNamedIn, IsNamedOf, IsRemadeByNames, IsServedByNames, names_asked}
+use Rattle.oathd.specs.Named.{AreNamedFloorsTold, IsActDone, IsNamedIn, IsNamedOf, IsRemadeByNames, IsServedByNames, names_asked, never}
+use Rattle.oathd.specs.Reload.{IsReloaded}
 use Rattle.oathd.specs.Serve.{IsAskedFor, IsServedAsAsked, place_in}
 
 -- the given moment, or any without one
@@ -144,7 +147,14 @@ module _ {S : Type 0} (g : Ghosts S) (finds : sql.Held S → Type 0) where
   -- a node is served to the end of its turns, by names if there are names
   abbrev pub IsServedSo : (Serving → Type 0) → List ℕ → Option (List ℕ) → Type 0
   IsServedSo IsAsked text None = IsServedAsAsked g finds IsAsked
-  IsServedSo IsAsked text (Some names) = IsServedByNames g finds IsAsked (IsNamedOf text)
+  IsServedSo IsAsked text (Some names) = IsServedByNames g finds IsAsked (IsNamedOf text) never
+
+  -- the same, or in a first life at least if the node takes its users file again
+  abbrev pub IsServedWith : Bool → ClusterWords → ℕ → Bool → ClientWords → List ℕ → Type 0
+  IsServedWith false cluster turns is_logged clients text =
+      IsServedSo (IsAskedFor cluster turns is_logged clients text) text (names_asked cluster text)
+  IsServedWith true cluster turns is_logged clients text =
+      IsReloaded g finds (IsAskedFor cluster turns is_logged clients text) cluster turns text
 
   -- The action is done, with the text of the cluster file that its words name. The records of the output before and
   -- after it are `old` and `new`. A store that is created without a cluster file prints nothing.
@@ -154,8 +164,8 @@ module _ {S : Type 0} (g : Ghosts S) (finds : sql.Held S → Type 0) where
   IsDone (Remake node (Given settings) moment former) text old new =
       (store : SqlHeld S) × IsReplaced node settings moment former store × (new ≡ old)
   IsDone (Remake node (Named path) moment former) text old new = IsMemberReplaced node moment former text old new
-  IsDone (Serve cluster turns is_logged clients) text old new =
-      IsServedSo (IsAskedFor cluster turns is_logged clients text) text (names_asked cluster text)
+  IsDone (Serve cluster turns is_logged clients reloads) text old new =
+      IsServedWith reloads cluster turns is_logged clients text
   IsDone Export text old new = (users : List ℕ) × HasExported g finds default_limits 0 16777216 old new users
   IsDone (Audit node) text old new = (users : List ℕ) × HasAudited g finds default_limits 0 16777216 node old new users
   IsDone (Migrate node) text old new =

@@ -1,5 +1,5 @@
 -- The commands over a store by names: what they do, and the ends of `serve`.
-use Rattle.std.specs.Prelude.{◌≡◌, ◌<◌, ℕ, false, List, length, Option, Some, None, Result, Ok, Err, min}
+use Rattle.std.specs.Prelude.{◌≡◌, ◌<◌, ℕ, Bool, false, List, length, Option, Some, None, Result, Ok, Err, min}
 use Rattle.std.specs.Option.{option_map, unwrap_or}
 use Rattle.sqlite.specs.Store.{Ghosts}
 use Rattle.sqlite.specs.Held as sql
@@ -95,6 +95,12 @@ seats_fault_of (seats.Roster fault) = fault_of fault
 seats_fault_of (seats.NotEnrolled row) = Seats (seats.NotEnrolled row)
 seats_fault_of (seats.NoUser user) = Seats (seats.NoUser user)
 
+-- ---- The turns
+
+-- no answer ends the turns before all are served
+abbrev pub never : ℕ → Bool → Bool → Type 0
+never left is_waiting ends = ends ≡ false
+
 -- ---- The acts
 
 -- The floors files of former stores are those of the words, and were read in a later second than they say.
@@ -180,9 +186,11 @@ module _ {S : Type 0} (g : Ghosts S) (finds : sql.Held S → Type 0) where
 
   -- ---- The ends
 
-  -- `IsAsked` holds for the parameters that were asked for, and `IsCluster` for the cluster.
-  module _ (IsAsked : Serving → Type 0) (IsCluster : NamedCluster → Type 0) where
-    -- A node with such parameters was served by names to the end of its turns, for the tokens of some users file.
+  -- `IsAsked` holds for the parameters that were asked for, `IsCluster` for the cluster, and `answers` for what is said of
+  -- the end of the turns.
+  module _ (IsAsked : Serving → Type 0) (IsCluster : NamedCluster → Type 0)
+      (answers : ℕ → Bool → Bool → Type 0) where
+    -- A node with such parameters was served by names until its turns ended, for the tokens of some users file.
     pub record IsServedByNames : Type 0 where
       pub serving : Serving
       pub asked : IsAsked serving
@@ -192,7 +200,7 @@ module _ {S : Type 0} (g : Ghosts S) (finds : sql.Held S → Type 0) where
       pub is_moment : IsMoment moment
       pub users : List ℕ
       pub counts : Served
-      pub served : HasServedNamed g finds named moment serving (Ok counts) users
+      pub served : HasServedNamed g finds named moment serving answers (Ok counts) users
 
     -- A node with such parameters ended with a fault: before its first turn, or with all that was served until then.
     pub record EndsByNames (fault : RosterFault) : Type 0 where
@@ -203,7 +211,7 @@ module _ {S : Type 0} (g : Ghosts S) (finds : sql.Held S → Type 0) where
       pub moment : ℕ
       pub is_moment : IsMoment moment
       pub users : List ℕ
-      pub ends : EndsServingNamed g finds named moment serving fault users
+      pub ends : EndsServingNamed g finds named moment serving answers fault users
 
     -- The end of a command that serves by names. A fault of a task is one of the files that give the parameters, and the
     -- clock may fail before anything else.
@@ -225,9 +233,9 @@ module _ {S : Type 0} (g : Ghosts S) (finds : sql.Held S → Type 0) where
   -- the end of a command that serves, by names if there are names
   abbrev pub EndsSo : (Serving → Type 0) → List ℕ → Option (List ℕ) → Result Unit Fault → Type 0
   EndsSo IsAsked text None result = ServeEndsSo g finds IsAsked result
-  EndsSo IsAsked text (Some names) result = NamedEndsSo IsAsked (IsNamedOf text) result
+  EndsSo IsAsked text (Some names) result = NamedEndsSo IsAsked (IsNamedOf text) never result
 
   -- the same for a cluster that may have names
   abbrev pub EndsBy : (Serving → Type 0) → Option NamedCluster → Result Unit Fault → Type 0
   EndsBy IsAsked None result = ServeEndsSo g finds IsAsked result
-  EndsBy IsAsked (Some named) result = NamedEndsSo IsAsked (λ other. other ≡ named) result
+  EndsBy IsAsked (Some named) result = NamedEndsSo IsAsked (λ other. other ≡ named) never result

@@ -314,7 +314,7 @@ impl<'r, 'a> Site<'r, 'a> {
     }
 
     /// Returns the lines of clients that a node takes, from the words and the clients file that they name.
-    fn lines_of(&self, clients: ClientWords<'a>) -> Result<ClientLines, Fault<'a>>
+    pub(crate) fn lines_of(&self, clients: ClientWords<'a>) -> Result<ClientLines, Fault<'a>>
         ensures lines { IfOk result (AreLinesOf clients.entry) }
         ensures said { IfOk result IsSaid }
         ensures fault { IfErr result IsOfTask }
@@ -615,7 +615,14 @@ impl<'r, 'a> Site<'r, 'a> {
                 turns,
                 is_logged,
                 clients,
-            } => { self.serve(start, cluster, turns, is_logged, clients, held) },
+                reloads,
+            } => {
+                if reloads {
+                    self.reload(start, cluster, turns, is_logged, clients, held)
+                } else {
+                    self.serve(start, cluster, turns, is_logged, clients, held)
+                }
+            }
             Action::Export => self.export(start, held),
             Action::Audit { node } => self.audit(start, node, held),
             Action::Migrate { node } => self.migrate(start, node),

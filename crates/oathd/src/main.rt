@@ -4,9 +4,13 @@
 mod databases;
 mod fault;
 mod floors;
+mod laws;
 mod named;
+mod refusal;
+mod reload;
 mod tasks;
 mod users;
+mod watch;
 
 use fault::Fault;
 use oathd_tasks::run;

@@ -8,7 +8,7 @@ ghost use Rattle.floor_sql.specs.Usable.{IsNode};
 ghost use Rattle.oathd_database.specs.File.{FindsFiles};
 ghost use Rattle.oathd_words.specs.declared.store_words.NamedAct.TheVariants as acts;
 ghost use Rattle.otp_core.specs.Range.{IsMoment};
-ghost use Rattle.oathd.specs.Named.{ActsFor, AreNamedFloorsTold, AreNamesIn, IsActDone, IsKeyOf, IsMemberByNames, IsRemadeByNames, NamedEndsSo};
+ghost use Rattle.oathd.specs.Named.{ActsFor, AreNamedFloorsTold, AreNamesIn, IsActDone, IsKeyOf, IsMemberByNames, IsRemadeByNames, NamedEndsSo, never};
 ghost use Rattle.oathd.specs.Serve.{IsOfTask};
 
 use crate::databases::{Site, present_moment};
@@ -17,8 +17,9 @@ use crate::floors::{floors_texts, with_named_paths};
 use crate::users::checked_users_text;
 use cluster_file::{Cluster, ClusterFault, LineFault};
 use floors_file::MAX_NAMED_FLOORS_LEN;
+use oath_node::Never;
 use oathd_causes::NamesFault;
-use oathd_database::{DatabaseFile, Serving};
+use oathd_database::{DatabaseFile, KeptSocket, Serving};
 use oathd_floors::{Former, level_named_store, name_store, remake_named_store, tell_named_floors};
 use oathd_roster::{NamedCluster, begin_store, serve_named_store};
 use oathd_seats::{
@@ -85,12 +86,23 @@ impl<'a> Site<'_, 'a> {
         held: &mut O,
     ) -> Result<(), Fault<'a>>
         ensures { NamedEndsSo ⟦<FileStore<FileFrom<S>> as Store>⟧ (FindsFiles (image_at S.Start))
-            (λ other. other ≡ serving.entry) (λ named. named ≡ cluster.now) result }
+            (λ other. other ≡ serving.entry) (λ named. named ≡ cluster.now) never result }
     {
         let moment = present_moment(self.rt)?;
         let users = self.users(serving.settings, moment)?;
         let (alloc, rt, found) = (self.alloc, self.rt, self.found(start));
-        let _served = serve_named_store(alloc, rt, users, moment, serving, cluster, found, held)?;
+        let _served = serve_named_store(
+            alloc,
+            rt,
+            users,
+            moment,
+            serving,
+            cluster,
+            found,
+            &mut KeptSocket::new(),
+            &mut Never,
+            held,
+        )?;
         Ok(())
     }
 

@@ -93,6 +93,7 @@ pub fn advice_is_worked()
 
 /// Worked cases. What to do about each fault of names.
 pub fn names_are_worked()
-    ensures faults { map names_advice (NamesFault.PlainInit ∷ NamesFault.NoNames ∷ NamesFault.NoSince ∷ [])
-        ≡ NamesAdvice.Begin ∷ NamesAdvice.GiveNames ∷ NamesAdvice.GiveSince ∷ [] }
+    ensures faults { map names_advice (NamesFault.PlainInit ∷ NamesFault.NoNames ∷ NamesFault.NoSince
+        ∷ NamesFault.PlainReload ∷ [])
+        ≡ NamesAdvice.Begin ∷ NamesAdvice.GiveNames ∷ NamesAdvice.GiveSince ∷ NamesAdvice.GiveNamesToReload ∷ [] }
 {}

@@ -27,6 +27,9 @@ pub enum NamesFault {
     /// The file gives names, and the command takes floors files without saying since when they were read.
     #[error("cluster: NoSince")]
     NoSince,
+    /// The file gives no names, and the node is to take its users file again when it changes.
+    #[error("cluster: NoNames")]
+    PlainReload,
 }
 
 /// What to do about such a fault.
@@ -38,6 +41,8 @@ pub enum NamesAdvice {
     GiveNames,
     #[error("it gives names: give --since SECONDS, a time after the last node that is lost or replaced had stopped")]
     GiveSince,
+    #[error("--reload is for stores by names: give names WORD in it, or leave --reload out")]
+    GiveNamesToReload,
 }
 
 /// Returns what to do about a fault of names.
@@ -48,6 +53,7 @@ pub fn names_advice(fault: NamesFault) -> NamesAdvice
         NamesFault::PlainInit => NamesAdvice::Begin,
         NamesFault::NoNames => NamesAdvice::GiveNames,
         NamesFault::NoSince => NamesAdvice::GiveSince,
+        NamesFault::PlainReload => NamesAdvice::GiveNamesToReload,
     }
 }
 

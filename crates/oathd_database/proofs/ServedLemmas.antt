@@ -34,7 +34,7 @@ clients_keyed ahead start (entry ∷ entries) = ap (λ (all : List Keyed). keyed
 
 abbrev setup_with : ℕ → List Keyed → List ℕ → Option ℕ → List SocketAddrV4 → Setup
 setup_with node clients plain most members =
-    behind_gate (record { node = node; clients = clients; plain = plain; most = most }) (setup_of true false members)
+    behind_gate (record { node = node; clients = clients; operators = []; plain = plain; most = most }) (setup_of true false members)
 
 -- the port behind the front of the lines is the port for these lines
 pub setup_is : (node : ℕ) (members : List SocketAddrV4) (given : ClientLines) (front : Front) → IsFrontOf node given front

@@ -17,7 +17,7 @@ client_from ahead start entry =
 abbrev pub clients_from : ℕ → ℕ → List ClientEntry → List Client
 clients_from ahead start entries = map (client_from ahead start) entries
 
--- the gate before a node, which remembers no line
+-- the gate before a node, which remembers no line and knows no operator
 abbrev pub gate_from : ℕ → ℕ → Clients → GateRecord
 gate_from node start clients = record {
   node = node;
@@ -25,6 +25,8 @@ gate_from node start clients = record {
   plain = clients.plain.items;
   asked = [];
   failures = record { most = clients.failures; minute = 0; failed = [] };
+  operators = [];
+  aside = [];
 }
 
 -- how many seconds a client may be ahead of the clock, 2 without a clients file

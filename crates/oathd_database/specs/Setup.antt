@@ -1,5 +1,5 @@
 -- The port of a served node: the members and the clients that it takes, and the events that it may have.
-use Rattle.std.specs.Prelude.{◌≡◌, ℕ, true, false, List, map, Option, Some, None}
+use Rattle.std.specs.Prelude.{◌≡◌, ℕ, true, false, List, [], map, Option, Some, None}
 use Rattle.std.specs.declared.net.socket_addr.SocketAddrV4.{SocketAddrV4}
 use Rattle.clients_file.specs.declared.clients.ClientEntry.{ClientEntry}
 use Rattle.clients_file.specs.declared.clients.Clients.{Clients}
@@ -22,6 +22,7 @@ abbrev pub gate_setup_from : ℕ → Clients → GateSetup
 gate_setup_from node clients = record {
   node = node;
   clients = map (keyed_from clients.ahead) clients.clients.items;
+  operators = [];
   plain = clients.plain.items;
   most = clients.failures;
 }

@@ -14,7 +14,13 @@ two_members = at_host 10 1 ∷ at_host 10 2 ∷ []
 -- a clients file of client 7 with a key
 abbrev pub clients_of : List ℕ → Clients
 clients_of key =
-    record { clients = one_item (record { number = 7; key = key }); plain = no_items; ahead = 2; failures = None }
+    record {
+      clients = one_item (record { number = 7; key = key });
+      operators = no_items;
+      plain = no_items;
+      ahead = 2;
+      failures = None;
+    }
 
 -- the byte as the datagram of a sender
 abbrev pub byte_of : Sender → List PortEvent

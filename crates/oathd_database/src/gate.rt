@@ -3,14 +3,16 @@
 ghost use Rattle.std.specs.Prelude.{◌≡◌, ◌≤◌, ◌<◌, ◌^◌, IfErr, IfOk};
 ghost use Rattle.oathd_database.specs.Front.{IsFrontFault, IsFrontOf};
 ghost use Rattle.oathd_database.specs.Gate.{IsSaid, clients_from, gate_from};
+ghost use Rattle.oathd_database.specs.Serving.{AreAgain};
 
 use crate::fault::Fault;
-use clients_file::{ClientEntry, Clients};
+use clients_file::{ClientEntry, Clients, OperatorEntry};
 use datagram_port::Clock;
 use otp_core::MOMENTS_END;
 use replay_window::Ahead;
 use sealed_port::{Client, Failures, Gate};
-use std::alloc::Global;
+use sealed_wire::ClientKey;
+use std::alloc::{AllocError, Global};
 use std::time::Clock as TimeSource;
 use udp_port::SystemClock;
 
@@ -23,6 +25,57 @@ pub enum ClientLines {
     ThisMachine,
     /// The sealed lines of the clients of a clients file, and plain lines from its plain addresses.
     Of(Clients),
+}
+
+/// Returns the same clients.
+fn same_entries(alloc: Global, entries: &[ClientEntry]) -> Result<Vec<ClientEntry>, AllocError>
+    ensures { IfOk result (λ same. same.items ≡ entries.now) }
+{
+    let mut same = Vec::with_capacity(alloc, entries.len())?;
+    for entry in entries {
+        let key = ClientKey::new(entry.key.as_slice()).unwrap();
+        let number = entry.number;
+        same.push(ClientEntry { number, key })?;
+    }
+    Ok(same)
+}
+
+/// Returns the same operators.
+fn same_operators(
+    alloc: Global,
+    operators: &[OperatorEntry],
+) -> Result<Vec<OperatorEntry>, AllocError>
+    ensures { IfOk result (λ same. same.items ≡ operators.now) }
+{
+    let mut same = Vec::with_capacity(alloc, operators.len())?;
+    for operator in operators {
+        let key = ClientKey::new(operator.key.as_slice()).unwrap();
+        let (number, right) = (operator.number, operator.right);
+        same.push(OperatorEntry { number, key, right })?;
+    }
+    Ok(same)
+}
+
+impl ClientLines {
+    /// Returns the same lines.
+    ///
+    /// # Errors
+    /// Returns `AllocError` if the allocator refuses the memory.
+    pub(crate) fn again(&self, alloc: Global) -> Result<Self, AllocError>
+        ensures { IfOk result (AreAgain self.now) }
+    {
+        match self {
+            ClientLines::Anybody => Ok(ClientLines::Anybody),
+            ClientLines::ThisMachine => Ok(ClientLines::ThisMachine),
+            ClientLines::Of(clients) => Ok(ClientLines::Of(Clients {
+                clients: same_entries(alloc, &clients.clients)?,
+                operators: same_operators(alloc, &clients.operators)?,
+                plain: clients.plain.clone()?,
+                ahead: clients.ahead,
+                failures: clients.failures,
+            })),
+        }
+    }
 }
 
 /// Returns the clients of a process that begins at the second `start` of the clock.
@@ -43,7 +96,8 @@ fn clients_from(
         .map_err(|_| Fault::Memory)
 }
 
-/// Returns the gate before the node `node`, for a process that begins at the second `start` of the clock.
+/// Returns the gate before the node `node`, for a process that begins at the second `start` of the clock. It knows no
+/// operator.
 fn gate_from(alloc: Global, node: u8, clients: Clients, start: u64) -> Result<Gate, Fault>
     requires start { start < 2 ^ 40 }
     requires ahead { (1 ≤ clients.ahead) × (clients.ahead ≤ 60) }
@@ -53,7 +107,8 @@ fn gate_from(alloc: Global, node: u8, clients: Clients, start: u64) -> Result<Ga
     let ahead = Ahead::new(clients.ahead).unwrap();
     let known = clients_from(alloc, clients.clients, ahead, start)?;
     let failures = Failures::new(clients.failures);
-    Ok(Gate::new(node, known, clients.plain, failures))
+    let operators = Vec::new(alloc);
+    Ok(Gate::new(node, known, operators, clients.plain, failures))
 }
 
 /// What stands between a node's socket and its clients.

@@ -53,9 +53,10 @@ pub use made::{
 pub use migrate::migrate_store;
 pub use node_key::{NodeKey, node_keys_tell, tag_key};
 pub use serve::{
-    ServeLog, log_of, open_node, serve_node, serve_port, serve_store, socket_at, start_of,
+    KeptSocket, ServeLog, log_of, open_node, serve_node, serve_port, serve_store, socket_at,
+    start_of,
 };
 pub use serving::Serving;
-pub use setup_laws::{setups_are_worked, setups_can_be_broken};
+pub use setup_laws::{lines_given_again_can_be_broken, setups_are_worked, setups_can_be_broken};
 pub use unlock::{UnlockFault, open_gate, unlock_store};
 pub use users::{Users, drifted_floors, read_users};

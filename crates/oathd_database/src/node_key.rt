@@ -20,6 +20,28 @@ pub enum NodeKey<'a> {
     Shared(ClusterKey, &'a Cluster<'a>),
 }
 
+/// Returns the same key.
+fn same_key(key: &ClusterKey) -> ClusterKey
+    ensures { result ≡ key.now }
+{
+    match ClusterKey::new(key.as_slice()) {
+        Some(same) => same,
+        None => ClusterKey::bare(),
+    }
+}
+
+impl<'a> NodeKey<'a> {
+    /// Returns the same source of a key.
+    pub(crate) fn again(&self) -> Self
+        ensures { result ≡ self.now }
+    {
+        match self {
+            NodeKey::Own(key) => NodeKey::Own(same_key(key)),
+            NodeKey::Shared(key, cluster) => NodeKey::Shared(same_key(key), *cluster),
+        }
+    }
+}
+
 /// Returns the key under which a node with the tokens of `book` tags its datagrams.
 ///
 /// # Errors

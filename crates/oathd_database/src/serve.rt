@@ -2,7 +2,7 @@
 
 ghost use Rattle.std.specs.Prelude.{◌≡◌, ◌<◌, ◌^◌, [], None, false, true, length, Result, Ok, IfErr, IfOk, IfSome, IsSome, OnOk};
 ghost use Rattle.std.specs.Io.KnownBytes.{Appends};
-ghost use Rattle.oath_node.specs.TurnServing.{Serves};
+ghost use Rattle.oath_node.specs.TurnServing.{Serves, ServesUntil};
 ghost use Rattle.oath_node.specs.declared.serve_fault.ServeFault.{ServeFault};
 ghost use Rattle.oath_node.specs.declared.turns.Served.{Served};
 ghost use Rattle.oath_node.specs.Calls.{IsOpened};
@@ -22,7 +22,7 @@ use cluster_file::fingerprint;
 use datagram_port::{Clock, Port};
 use floor_store::FloorStore;
 use node_log::{Gatekeeper, LogPort, MAX_OTHERS, Member, Roster, Start, write_roster, write_start};
-use oath_node::{Node, Served, run_turns};
+use oath_node::{Never, Node, Served, Until, run_turns_until};
 use otp_core::Settings;
 use sealed_port::SealedPort;
 use sqlite::Alter;
@@ -65,25 +65,26 @@ pub fn open_node<'b, S: FloorStore + Drop>(
     }
 }
 
-/// Serves a node over a port for `turns` receives.
+/// Serves a node over a port for `turns` receives, or until `until` ends them.
 ///
 /// # Errors
 /// - Returns `Store` if the node's store fails, and `Store(Spent)` if no proposal number of this boot is left.
 /// - Returns `Socket` at the 16th consecutive fault of the port.
 /// - Returns `NoClock` if the clock tells no time.
-pub fn serve_node<S: FloorStore, P: Port, C: Clock>(
+pub fn serve_node<S: FloorStore, P: Port, C: Clock, U: Until>(
     node: &mut Node<'_, S>,
     port: &mut P,
     clock: &mut C,
     turns: u64,
+    until: &mut U,
 ) -> Result<Served, Fault>
     requires { turns < 2 ^ 54 }
     ensures turns { (end : Result Served ServeFault)
-        × Serves S.held node.old node.new (P.events port.old) (P.events port.new)
-        (C.moments clock.old) (C.moments clock.new) turns end × (result ≡ serve_end end) }
+        × ServesUntil S.held node.old node.new (P.events port.old) (P.events port.new)
+        (C.moments clock.old) (C.moments clock.new) turns (U.answers until.new) end × (result ≡ serve_end end) }
     ensures stays { P.setup port.new ≡ P.setup port.old }
 {
-    match run_turns(node, port, clock, turns) {
+    match run_turns_until(node, port, clock, turns, until) {
         Ok(served) => Ok(served),
         Err(fault) => Err(Fault::from(fault)),
     }
@@ -101,6 +102,50 @@ pub fn socket_at<N: Net>(net: &N, address: SocketAddrV4) -> Result<UdpSocket, Fa
     };
     match socket.set_read_timeout(Some(Duration::from_millis(WAIT_MILLIS))) {
         Ok(()) => Ok(socket),
+        Err(_) => Err(Fault::Socket),
+    }
+}
+
+/// A UDP socket that is bound once, and kept while one node after another is served over it.
+#[derive(Drop)]
+pub struct KeptSocket {
+    socket: Option<UdpSocket>,
+}
+
+impl KeptSocket {
+    /// Returns a socket that is not bound yet.
+    pub fn new() -> Self {
+        KeptSocket { socket: None }
+    }
+
+    /// Returns a handle of the socket in blocking mode. Binds it first to `address`, as [`socket_at`] does, if it isn't
+    /// bound yet. What came meanwhile waits in it.
+    ///
+    /// # Errors
+    /// - Returns the errors of [`socket_at`].
+    /// - Returns `Socket` if there is no other handle, or its mode cannot be set.
+    pub fn handle<N: Net>(&mut self, net: &N, address: SocketAddrV4) -> Result<UdpSocket, Fault>
+        ensures { IfErr result (λ fault. fault ≡ Fault.Socket) }
+    {
+        let socket = match self.socket.take() {
+            Some(socket) => socket,
+            None => socket_at(net, address)?,
+        };
+        let handle = other_handle(&socket);
+        self.socket = Some(socket);
+        handle
+    }
+}
+
+/// Returns another handle of a socket, in blocking mode.
+fn other_handle(socket: &UdpSocket) -> Result<UdpSocket, Fault>
+    ensures { IfErr result (λ fault. fault ≡ Fault.Socket) }
+{
+    if socket.set_nonblocking(false).is_err() {
+        return Err(Fault::Socket);
+    }
+    match socket.try_clone() {
+        Ok(handle) => Ok(handle),
         Err(_) => Err(Fault::Socket),
     }
 }
@@ -140,11 +185,12 @@ fn write_first_lines<W: Write>(writer: &mut W, log: &ServeLog) -> io::Result<()>
 
 /// Serves a node over a port, as [`serve_node`] does, with a log. A member is heard under `key`. A failed write ends
 /// the log, but not the node.
-fn serve_logged<S: FloorStore, P: Gatekeeper + Drop, N: TimeSource, W: Write>(
+fn serve_logged<S: FloorStore, P: Gatekeeper + Drop, N: TimeSource, W: Write, U: Until>(
     node: &mut Node<'_, S>,
     port: P,
     outside: &N,
     turns: u64,
+    until: &mut U,
     key: &ClusterKey,
     log: ServeLog,
     writer: &mut W,
@@ -152,13 +198,13 @@ fn serve_logged<S: FloorStore, P: Gatekeeper + Drop, N: TimeSource, W: Write>(
     requires turns { turns < 2 ^ 54 }
     requires fresh { IfSome (P.events port) (λ entries. entries ≡ []) }
     ensures turns { (end : Result Served ServeFault) × (last : P)
-        × Serves S.held node.old node.new (P.events port) (P.events last) None None turns end
-        × (P.setup last ≡ P.setup port) × (result ≡ serve_end end) }
+        × ServesUntil S.held node.old node.new (P.events port) (P.events last) None None turns (U.answers until.new)
+        end × (P.setup last ≡ P.setup port) × (result ≡ serve_end end) }
 {
     let _written = write_first_lines(writer, &log);
     let mut clock = SystemClock::new(outside);
     let mut port = LogPort::new(port, writer, key, log.members);
-    let served = serve_node(node, &mut port, &mut clock, turns)?;
+    let served = serve_node(node, &mut port, &mut clock, turns, until)?;
     port.end(served.received, served.replied);
     Ok(served)
 }
@@ -169,7 +215,35 @@ fn serve_logged<S: FloorStore, P: Gatekeeper + Drop, N: TimeSource, W: Write>(
 ///
 /// # Errors
 /// Returns the errors of [`serve_node`].
-pub fn serve_port<S: FloorStore, P: Gatekeeper + Drop, N: TimeSource, W: Write>(
+pub fn serve_port<S: FloorStore, P: Gatekeeper + Drop, N: TimeSource, W: Write, U: Until>(
+    node: &mut Node<'_, S>,
+    port: P,
+    outside: &N,
+    turns: u64,
+    until: &mut U,
+    key: &ClusterKey,
+    log: Option<ServeLog>,
+    writer: &mut W,
+) -> Result<Served, Fault>
+    requires turns { turns < 2 ^ 54 }
+    requires fresh { IfSome (P.events port) (λ entries. entries ≡ []) }
+    ensures turns { (end : Result Served ServeFault) × (last : P)
+        × ServesUntil S.held node.old node.new (P.events port) (P.events last) None None turns (U.answers until.new)
+        end × (P.setup last ≡ P.setup port) × (result ≡ serve_end end) }
+    ensures unlogged { log ≡ None → writer.new ≡ writer.old }
+{
+    match log {
+        Some(log) => serve_logged(node, port, outside, turns, until, key, log, writer),
+        None => {
+            let mut port = port;
+            let mut clock = SystemClock::new(outside);
+            serve_node(node, &mut port, &mut clock, turns, until)
+        }
+    }
+}
+
+/// Serves a node over a port for all turns, as [`serve_port`] does.
+fn serve_turns<S: FloorStore, P: Gatekeeper + Drop, N: TimeSource, W: Write>(
     node: &mut Node<'_, S>,
     port: P,
     outside: &N,
@@ -185,14 +259,7 @@ pub fn serve_port<S: FloorStore, P: Gatekeeper + Drop, N: TimeSource, W: Write>(
         × (P.setup last ≡ P.setup port) × (result ≡ serve_end end) }
     ensures unlogged { log ≡ None → writer.new ≡ writer.old }
 {
-    match log {
-        Some(log) => serve_logged(node, port, outside, turns, key, log, writer),
-        None => {
-            let mut port = port;
-            let mut clock = SystemClock::new(outside);
-            serve_node(node, &mut port, &mut clock, turns)
-        }
-    }
+    serve_port(node, port, outside, turns, &mut Never, key, log, writer)
 }
 
 /// Serves a node over a socket, as [`serve_node`] does, for the clients that `front` lets through, with a log if there
@@ -214,14 +281,14 @@ fn serve_front<S: FloorStore, N: TimeSource, W: Write>(
     ensures unlogged { log ≡ None → writer.new ≡ writer.old }
 {
     match front {
-        Front::Anybody => serve_port(node, port, outside, turns, key, log, writer),
+        Front::Anybody => serve_turns(node, port, outside, turns, key, log, writer),
         Front::ThisMachine => {
             let port = port.taking_loopback_alone();
-            serve_port(node, port, outside, turns, key, log, writer)
+            serve_turns(node, port, outside, turns, key, log, writer)
         }
         Front::Gate(gate) => {
             let port = SealedPort::new(port.under_gate(), SystemClock::new(outside), gate);
-            serve_port(node, port, outside, turns, key, log, writer)
+            serve_turns(node, port, outside, turns, key, log, writer)
         }
     }
 }

@@ -6,7 +6,7 @@ use crate::gate::ClientLines;
 use crate::node_key::NodeKey;
 use cluster_file::Cluster;
 use otp_core::Settings;
-use std::alloc::AllocError;
+use std::alloc::{AllocError, Global};
 use std::net::SocketAddrV4;
 use vote_core::Place;
 use vote_wire::ClusterKey;
@@ -35,7 +35,7 @@ pub struct Serving<'a> {
 }
 
 impl<'a> Serving<'a> {
-    ghost use Rattle.oathd_database.specs.Serving.{IsOfMember};
+    ghost use Rattle.oathd_database.specs.Serving.{IsAgain, IsOfMember};
 
     /// Returns the parameters of the member at `place` of `cluster`. It has the settings and the members of the cluster
     /// file, and tags under the shared key, which is derived from `key` and the file.
@@ -64,6 +64,25 @@ impl<'a> Serving<'a> {
             turns,
             is_logged,
             lines,
+        })
+    }
+
+    /// Returns the same parameters for `turns` turns.
+    ///
+    /// # Errors
+    /// Returns `AllocError` if the allocator refuses the memory.
+    pub fn again(&self, alloc: Global, turns: u64) -> Result<Self, AllocError>
+        requires { turns < 2 ^ 54 }
+        ensures { IfOk result (λ serving. IsAgain self.now serving × (serving.turns ≡ turns)) }
+    {
+        Ok(Serving {
+            settings: self.settings,
+            place: self.place,
+            members: self.members.clone()?,
+            key: self.key.again(),
+            turns,
+            is_logged: self.is_logged,
+            lines: self.lines.again(alloc)?,
         })
     }
 }

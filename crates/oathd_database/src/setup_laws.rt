@@ -4,7 +4,10 @@ ghost use Rattle.std.specs.Prelude.{◌≡◌, ◌∷◌, [], None, Some, false,
 ghost use Rattle.datagram_port.specs.declared.port.Sender.TheVariants.{Client, Peer};
 ghost use Rattle.udp_port.specs.Address.{number_of};
 ghost use Rattle.udp_port.specs.Examples.{at_host, heard_from};
+ghost use Rattle.sealed_wire.specs.declared.right.Right.TheVariants.{Reader};
+ghost use Rattle.oathd_database.specs.Broken.{one_item};
 ghost use Rattle.oathd_database.specs.Gate.{gate_from};
+ghost use Rattle.oathd_database.specs.Serving.{AreAgain};
 ghost use Rattle.oathd_database.specs.Setup.{AreEventsOf, setup_behind, setup_for};
 ghost use Rattle.oathd_database.specs.SetupExamples.{byte_of, clients_of, two_members};
 ghost use Rattle.oathd_database.specs.declared.gate.ClientLines.TheVariants.{Anybody, Of, ThisMachine};
@@ -26,6 +29,7 @@ pub fn setups_are_worked()
           gate = Some (record {
             node = 3;
             clients = record { number = 7; key = 5 ∷ []; ahead = 2 } ∷ [];
+            operators = [];
             plain = [];
             most = None;
           });
@@ -69,4 +73,21 @@ pub fn setups_can_be_broken()
         ≡ setup_for 1 two_members (Of (clients_of (6 ∷ []))) → ⊥ }
     ensures of_another_node { setup_for 1 two_members (Of (clients_of (5 ∷ [])))
         ≡ setup_for 2 two_members (Of (clients_of (5 ∷ []))) → ⊥ }
+{}
+
+/// Counterexamples: lines that are given again differ in no client, operator, address, lead or limit.
+pub fn lines_given_again_can_be_broken()
+    ensures anybody { AreAgain Anybody Anybody }
+    ensures anybody_for_this_machine { AreAgain ThisMachine Anybody → ⊥ }
+    ensures this_machine { AreAgain ThisMachine ThisMachine }
+    ensures this_machine_for_anybody { AreAgain Anybody ThisMachine → ⊥ }
+    ensures clients { AreAgain (Of (clients_of (5 ∷ []))) (Of (clients_of (5 ∷ []))) }
+    ensures another_key { AreAgain (Of (clients_of (5 ∷ []))) (Of (clients_of (6 ∷ []))) → ⊥ }
+    ensures another_operator { AreAgain (Of (clients_of []))
+        (Of (record (clients_of []) { operators = one_item (record { number = 8; key = []; right = Reader }) })) → ⊥ }
+    ensures another_address { AreAgain (Of (clients_of [])) (Of (record (clients_of []) { plain = one_item 7 })) → ⊥ }
+    ensures another_lead { AreAgain (Of (clients_of [])) (Of (record (clients_of []) { ahead = 3 })) → ⊥ }
+    ensures another_limit { AreAgain (Of (clients_of [])) (Of (record (clients_of []) { failures = Some 1 })) → ⊥ }
+    ensures anybody_for_clients { AreAgain (Of (clients_of [])) Anybody → ⊥ }
+    ensures this_machine_for_clients { AreAgain (Of (clients_of [])) ThisMachine → ⊥ }
 {}

@@ -3,6 +3,8 @@
 #![tactic(auto)]
 
 #[cfg(test)]
+mod serving_tests;
+#[cfg(test)]
 mod tests;
 #[cfg(test)]
 mod vote_tests;

@@ -3,7 +3,7 @@
 use datagram_port::{Coming, ListClock, ListPort, PortEntry, Sender};
 use floor_sql::SqlStore;
 use floor_store::StoreFault;
-use oath_node::Served;
+use oath_node::{Never, Served};
 use oathd_database::{
     Database, Fault, init_store, open_node, open_store, serve_node, write_audit, write_rows,
 };
@@ -80,7 +80,7 @@ fn turned(
     let (users, store) = open_store(alloc, SILVER, settings, Some(1), database)?;
     let mut node = open_node(alloc, &users.book, settings, place, &key, store)?;
     let mut clock = ListClock::new(alloc, moments);
-    let end = serve_node(&mut node, port, &mut clock, u64::from(turns));
+    let end = serve_node(&mut node, port, &mut clock, u64::from(turns), &mut Never);
     Ok((closed(node.close()), end))
 }
 

@@ -22,7 +22,7 @@ use Rattle.named_port.specs.Translator.{TranslatorRecord, new_translator}
 use Rattle.named_store.specs.declared.opening.RowCounts.{RowCounts}
 use Rattle.oath_node.specs.Calls.{IsOpened}
 use Rattle.oath_node.specs.Hosted.{Hosted}
-use Rattle.oath_node.specs.TurnServing.{Serves}
+use Rattle.oath_node.specs.TurnServing.{ServesUntil}
 use Rattle.oath_node.specs.declared.serve_fault.ServeFault.{ServeFault}
 use Rattle.oath_node.specs.declared.turns.Served.{Served}
 use Rattle.otp_core.specs.Limits.{Limits}
@@ -61,16 +61,16 @@ use Rattle.oathd_roster.proofs.TellingLemmas.{known_above, telling_stays}
 
 -- The translator `t` and the packer `p` are at their start, when nothing was received and offered, and `u`, `q` and the
 -- bundler `b` are those at the end.
-pub served_under : {S : Type 0} (held : S → Held) (old new : Hosted S) (turns : ℕ) (end : Result Served ServeFault) (t u start : TranslatorRecord) (p q packer : PackerRecord)
+pub served_under : {S : Type 0} (held : S → Held) (old new : Hosted S) (turns : ℕ) (answers : ℕ → Bool → Bool → Type 0) (end : Result Served ServeFault) (t u start : TranslatorRecord) (p q packer : PackerRecord)
     (b : BundlerRecord) (none calls : List PortEvent) (told : List Call) (joined : List joining.Call) (was now : Option Setup) (floors later : List ℕ) (below : Option (List PortEvent))
     → t ≡ start → start ≡ at_start start → none ≡ [] → p ≡ packer → packer ≡ telling.at_start packer floors → IsSome was
-    → Serves held old new (Some (handed_events (at_start t) none)) (Some (handed_events (at_start u) calls)) None None turns end
+    → ServesUntil held old new (Some (handed_events (at_start t) none)) (Some (handed_events (at_start u) calls)) None None turns answers end
     → named_setup u (telling_setup q later now) ≡ named_setup t (telling_setup p floors was)
     → IsAfter (Some (telling.handed_events (telling.at_start q later) told)) u calls
     → telling.IsAfter (Some (joining.handed_events new_bundler joined)) q (telling.at_start q later) told
     → joining.IsAfter below b joined
-    → ServesNamed held old new start packer below turns end × (now ≡ was)
-served_under held old new turns end t u start p q packer b none calls told joined was now floors later below is begun fresh is_packer packed known serves same after under over =
+    → ServesNamed held old new start packer below turns answers end × (now ≡ was)
+served_under held old new turns answers end t u start p q packer b none calls told joined was now floors later below is begun fresh is_packer packed known serves same after under over =
     let parts = parts_stay t u (telling_setup p floors was) (telling_setup q later now) (known_above p floors was known) same in
     let more = telling_stays p q floors later was now known parts.1 in
     let begins : at_start u ≡ start = parts.0 ∙ ap at_start is ∙ sym begun in
@@ -78,9 +78,9 @@ served_under held old new turns end t u start p q packer b none calls told joine
       record {
         calls = calls;
         serves =
-            subst (λ (f : List PortEvent). Serves held old new (Some f) (Some (handed_events start calls)) None None turns end)
+            subst (λ (f : List PortEvent). ServesUntil held old new (Some f) (Some (handed_events start calls)) None None turns answers end)
             (ap (handed_events (at_start t)) fresh)
-            (subst (λ (s : TranslatorRecord). Serves held old new (Some (handed_events (at_start t) none)) (Some (handed_events s calls)) None None turns end)
+            (subst (λ (s : TranslatorRecord). ServesUntil held old new (Some (handed_events (at_start t) none)) (Some (handed_events s calls)) None None turns answers end)
             begins serves);
         told = told;
         is_made = subst (λ (one : PackerRecord). may_make one told ≡ true) packs under.is_made;
@@ -98,13 +98,13 @@ served_under held old new turns end t u start p q packer b none calls told joine
       more.1,
     )
 
-module _ {S : Type 0} (held : S → Held) (old new : Hosted S) (turns : ℕ) (result : Result Served Fault) (end : Result Served ServeFault)
+module _ {S : Type 0} (held : S → Held) (old new : Hosted S) (turns : ℕ) (answers : ℕ → Bool → Bool → Type 0) (result : Result Served Fault) (end : Result Served ServeFault)
     (start : TranslatorRecord) (packer : PackerRecord) (skips alone : Bool) (members : List SocketAddrV4) (calls : SocketCalls) (setup : Setup) (ends : result ≡ serve_end end) where
   -- a node was served over a socket's port
-  pub served_plain : ServesNamed held old new start packer (Some (events_of_calls skips alone members calls)) turns end
-      → Some (setup_of skips alone members) ≡ Some setup → IsServedNamed held old new setup start packer turns result
+  pub served_plain : ServesNamed held old new start packer (Some (events_of_calls skips alone members calls)) turns answers end
+      → Some (setup_of skips alone members) ≡ Some setup → IsServedNamed held old new setup start packer turns answers result
   served_plain serves stays =
-      subst (λ (s : Setup). IsServedNamed held old new s start packer turns result) (same_Some (setup_of skips alone members) setup stays) (record {
+      subst (λ (s : Setup). IsServedNamed held old new s start packer turns answers result) (same_Some (setup_of skips alone members) setup stays) (record {
         events = events_of_calls skips alone members calls;
         calls = calls;
         of_setup = refl;
@@ -114,11 +114,11 @@ module _ {S : Type 0} (held : S → Held) (old new : Hosted S) (turns : ℕ) (re
       })
 
   -- a node was served over a gate's port
-  pub served_sealed : (gate : GateRecord) (events : List PortEvent) → ServesNamed held old new start packer (Some events) turns end
+  pub served_sealed : (gate : GateRecord) (events : List PortEvent) → ServesNamed held old new start packer (Some events) turns answers end
       → ∥ AreHeard (gate_setup gate) (events_of_calls skips alone members calls) events ∥₁
-      → Some (behind_gate (gate_setup gate) (setup_of skips alone members)) ≡ Some setup → IsServedNamed held old new setup start packer turns result
+      → Some (behind_gate (gate_setup gate) (setup_of skips alone members)) ≡ Some setup → IsServedNamed held old new setup start packer turns answers result
   served_sealed gate events serves heard stays =
-      subst (λ (s : Setup). IsServedNamed held old new s start packer turns result)
+      subst (λ (s : Setup). IsServedNamed held old new s start packer turns answers result)
       (same_Some (behind_gate (gate_setup gate) (setup_of skips alone members)) setup stays) (record {
         events = events;
         calls = calls;
@@ -151,7 +151,7 @@ clients_keyed client keyed (entry ∷ entries) same =
 
 abbrev setup_with : ℕ → List Keyed → List ℕ → Option ℕ → List SocketAddrV4 → Setup
 setup_with node clients plain most members =
-    behind_gate (record { node = node; clients = clients; plain = plain; most = most }) (setup_of true false members)
+    behind_gate (record { node = node; clients = clients; operators = []; plain = plain; most = most }) (setup_of true false members)
 
 -- the port behind the front of the lines is the port for these lines
 setup_is : (node : ℕ) (members : List SocketAddrV4) (given : ClientLines) (front : Front) → IsFrontOf node given front
@@ -169,16 +169,16 @@ setup_is node members (lines.Of clients) (Gate gate) is =
     ∙ ap (λ (all : List Keyed). setup_with node all clients.plain.items clients.failures members)
     (clients_keyed (client_from clients.ahead is.0) (keyed_from clients.ahead) clients.clients.items (λ entry. refl))
 
-module _ {S : Type 0} {held : S → Held} {old new : Hosted S} {start : TranslatorRecord} {packer : PackerRecord} {turns : ℕ} {result : Result Served Fault} where
+module _ {S : Type 0} {held : S → Held} {old new : Hosted S} {start : TranslatorRecord} {packer : PackerRecord} {turns : ℕ} {answers : ℕ → Bool → Bool → Type 0} {result : Result Served Fault} where
   -- a run that is served over one setup, translator and packer is served over the same ones
   pub served_over : {me number : ℕ} {made members : List SocketAddrV4} (given : ClientLines) (front : Front) (other : TranslatorRecord) (same_packer : PackerRecord)
       → made ≡ members → IsFrontOf me given front → me ≡ number → start ≡ other → packer ≡ same_packer
-      → IsServedNamed held old new (setup_behind made front) start packer turns result
-      → IsServedNamed held old new (setup_for number members given) other same_packer turns result
+      → IsServedNamed held old new (setup_behind made front) start packer turns answers result
+      → IsServedNamed held old new (setup_for number members given) other same_packer turns answers result
   served_over {me} {number} {made} {members} given front other same_packer same is who begins packs served =
-      subst (λ (t : TranslatorRecord). IsServedNamed held old new (setup_for number members given) t same_packer turns result) begins
-      (subst (λ (p : PackerRecord). IsServedNamed held old new (setup_for number members given) start p turns result) packs
-      (subst (λ (s : Setup). IsServedNamed held old new s start packer turns result)
+      subst (λ (t : TranslatorRecord). IsServedNamed held old new (setup_for number members given) t same_packer turns answers result) begins
+      (subst (λ (p : PackerRecord). IsServedNamed held old new (setup_for number members given) start p turns answers result) packs
+      (subst (λ (s : Setup). IsServedNamed held old new s start packer turns answers result)
       (ap (λ (all : List SocketAddrV4). setup_behind all front) same
       ∙ setup_is number members given front (subst (λ (n : ℕ). IsFrontOf n given front) who is)) served))
 
@@ -228,7 +228,7 @@ module _ (limits : Limits) (moment longest : ℕ) (book : List Credential) (floo
   front_failed (Store fault) text h is = absurd is
   front_failed Socket text h is = absurd is
 
-module _ {S : Type 0} (g : Ghosts S) (finds : sql.Held S → Type 0) (cluster : NamedCluster) (moment : ℕ) (serving : Serving) where
+module _ {S : Type 0} (g : Ghosts S) (finds : sql.Held S → Type 0) (cluster : NamedCluster) (moment : ℕ) (serving : Serving) (answers : ℕ → Bool → Bool → Type 0) where
   refused : (fault : Fault) (text : List ℕ) → IsNotOpened g finds cluster serving.settings moment 16777216 serving.place.me (Command fault) text
       → IsNotServed serving.settings moment 16777216 fault text
   refused Memory text h = tt
@@ -241,7 +241,7 @@ module _ {S : Type 0} (g : Ghosts S) (finds : sql.Held S → Type 0) (cluster : 
   -- no store is opened
   pub ends_unopened : (a : Option (List ℕ)) (fault : RosterFault)
       → IfSome a (IsNotOpened g finds cluster serving.settings moment 16777216 serving.place.me fault)
-      → IfSome a (EndsServingNamed g finds cluster moment serving fault)
+      → IfSome a (EndsServingNamed g finds cluster moment serving answers fault)
   ends_unopened None fault h = tt
   ends_unopened (Some text) (Command fault) h = inl (refused fault text h)
   ends_unopened (Some text) (SameName row) h = h
@@ -251,37 +251,37 @@ module _ {S : Type 0} (g : Ghosts S) (finds : sql.Held S → Type 0) (cluster : 
   module _ (a : Option (List ℕ)) (book : List Credential) (floors : List ℕ)
       (imported : IfSome a (IsImported serving.settings moment 16777216 book floors)) where
     ends_before : (fault : Fault) → ((text : List ℕ) → IsImported serving.settings moment 16777216 book floors text
-        → IsNotServed serving.settings moment 16777216 fault text) → IfSome a (EndsServingNamed g finds cluster moment serving (Command fault))
+        → IsNotServed serving.settings moment 16777216 fault text) → IfSome a (EndsServingNamed g finds cluster moment serving answers (Command fault))
     ends_before fault fails = IfSome_then a imported (λ text h. inl (fails text h))
 
     -- the allocator refuses the memory before the first turn, or the node was served
     pub ends_early : {A B : Type 0} (fault : Fault) → ((failed fault ≡ failed Memory) × B) ⊎ A
-        → (A → IfSome a (EndsServingNamed g finds cluster moment serving (Command fault)))
-        → IfSome a (EndsServingNamed g finds cluster moment serving (Command fault))
+        → (A → IfSome a (EndsServingNamed g finds cluster moment serving answers (Command fault)))
+        → IfSome a (EndsServingNamed g finds cluster moment serving answers (Command fault))
     ends_early fault (inl memory) served =
         let same : fault ≡ Memory = err_same fault Memory memory.0 in
-        subst (λ (x : Fault). IfSome a (EndsServingNamed g finds cluster moment serving (Command x))) (sym same)
+        subst (λ (x : Fault). IfSome a (EndsServingNamed g finds cluster moment serving answers (Command x))) (sym same)
         (ends_before Memory (λ text h. tt))
     ends_early fault (inr run) served = served run
 
     -- the node is not opened, or its store fails
-    pub ends_opening : (fault : Fault) → IsOpenFault fault → IfSome a (EndsServingNamed g finds cluster moment serving (Command fault))
+    pub ends_opening : (fault : Fault) → IsOpenFault fault → IfSome a (EndsServingNamed g finds cluster moment serving answers (Command fault))
     ends_opening fault is = ends_before fault (λ text h. opening_failed serving.settings moment 16777216 book floors fault text h is)
 
     -- what stands before the node can't be made
-    pub ends_front : (fault : Fault) → IsFrontFault fault → IfSome a (EndsServingNamed g finds cluster moment serving (Command fault))
+    pub ends_front : (fault : Fault) → IsFrontFault fault → IfSome a (EndsServingNamed g finds cluster moment serving answers (Command fault))
     ends_front fault is = ends_before fault (λ text h. front_failed serving.settings moment 16777216 book floors fault text h is)
 
     -- the socket can't be had
-    pub ends_socket : (fault : Fault) → fault ≡ Socket → IfSome a (EndsServingNamed g finds cluster moment serving (Command fault))
+    pub ends_socket : (fault : Fault) → fault ≡ Socket → IfSome a (EndsServingNamed g finds cluster moment serving answers (Command fault))
     ends_socket fault is =
-        subst (λ (x : Fault). IfSome a (EndsServingNamed g finds cluster moment serving (Command x))) (sym is)
+        subst (λ (x : Fault). IfSome a (EndsServingNamed g finds cluster moment serving answers (Command x))) (sym is)
         (ends_before Socket (λ text h. record { book = book; floors = floors; imported = h }))
 
     -- the allocator refuses the memory
-    pub ends_memory : (fault : Fault) → fault ≡ Memory → IfSome a (EndsServingNamed g finds cluster moment serving (Command fault))
+    pub ends_memory : (fault : Fault) → fault ≡ Memory → IfSome a (EndsServingNamed g finds cluster moment serving answers (Command fault))
     ends_memory fault is =
-        subst (λ (x : Fault). IfSome a (EndsServingNamed g finds cluster moment serving (Command x))) (sym is) (ends_before Memory (λ text h. tt))
+        subst (λ (x : Fault). IfSome a (EndsServingNamed g finds cluster moment serving answers (Command x))) (sym is) (ends_before Memory (λ text h. tt))
 
     module _ (found : SeatedRecord (SqlHeld S)) (counts : RowCounts) (first last : Hosted (SeatedRecord (SqlHeld S))) (boot : ℕ) (starts : List ℕ)
         (opened : HasOpenedNamed g finds cluster serving.settings moment serving.place.me book floors found counts)
@@ -292,9 +292,9 @@ module _ {S : Type 0} (g : Ghosts S) (finds : sql.Held S → Type 0) (cluster : 
       abbrev IsSo : Result Served Fault → Type 0
       IsSo result = IsServedNamed (seated_held (sql_held g)) first last (setup_for serving.place.me serving.members.items serving.lines)
           (new_translator (tag_key serving.key book) (names_of cluster.salt book) serving.place.me boot)
-          (new_packer (tag_key serving.key book) (names_of cluster.salt book) serving.place.me boot serving.place.n starts) serving.turns result
+          (new_packer (tag_key serving.key book) (names_of cluster.salt book) serving.place.me boot serving.place.n starts) serving.turns answers result
 
-      served_so : (result : Result Served Fault) → IsSo result → IfSome a (HasServedNamed g finds cluster moment serving result)
+      served_so : (result : Result Served Fault) → IsSo result → IfSome a (HasServedNamed g finds cluster moment serving answers result)
       served_so result is =
           IfSome_then a imported (λ text i. record {
             import = record { book = book; floors = floors; imported = i };
@@ -316,9 +316,9 @@ module _ {S : Type 0} (g : Ghosts S) (finds : sql.Held S → Type 0) (cluster : 
           })
 
       -- the node is served to the end
-      pub has_served : (served : Served) → IsSo (Ok served) → IfSome a (HasServedNamed g finds cluster moment serving (Ok served))
+      pub has_served : (served : Served) → IsSo (Ok served) → IfSome a (HasServedNamed g finds cluster moment serving answers (Ok served))
       has_served served is = served_so (Ok served) is
 
       -- a fault ends the turns
-      pub ends_served : (fault : Fault) → IsSo (Err fault) → IfSome a (EndsServingNamed g finds cluster moment serving (Command fault))
+      pub ends_served : (fault : Fault) → IsSo (Err fault) → IfSome a (EndsServingNamed g finds cluster moment serving answers (Command fault))
       ends_served fault is = IfSome_then a (served_so (Err fault) is) (λ text has. inr has)

@@ -22,7 +22,6 @@ use Rattle.oathd_database.specs.Commands.{HasImport, IsRefused}
 use Rattle.oathd_database.specs.Lost.{boot_at}
 use Rattle.oathd_database.specs.Made.{fresh_text, made_text}
 use Rattle.oathd_database.specs.Users.{IsUnread}
-use Rattle.oathd_database.specs.declared.fault.Fault.{Fault}
 use Rattle.oathd_database.specs.declared.fault.Fault.TheVariants.{Memory, CannotWrite, NoClock, Users, Store, Socket}
 use Rattle.oathd_roster.specs.Enrolment.{enrolment_floors}
 use Rattle.oathd_roster.specs.Users.{HasSameName}

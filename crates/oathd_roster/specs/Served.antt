@@ -1,5 +1,5 @@
 -- A node that is served over a port by names.
-use Rattle.std.specs.Prelude.{◌≡◌, ◌⊎◌, ℕ, ◌+◌, true, List, [], map, Option, Some, None, Result, Err}
+use Rattle.std.specs.Prelude.{◌≡◌, ◌⊎◌, ℕ, ◌+◌, Bool, true, List, [], map, Option, Some, None, Result, Err}
 use Rattle.sqlite.specs.Store.{Ghosts}
 use Rattle.sqlite.specs.Held as sql
 use Rattle.sqlite.specs.State.{HasCleanDisk}
@@ -17,7 +17,7 @@ use Rattle.named_port.specs.Runs.{below_events, handed_events}
 use Rattle.named_port.specs.Translator.{TranslatorRecord, new_translator}
 use Rattle.oath_node.specs.Calls.{IsOpened}
 use Rattle.oath_node.specs.Hosted.{Hosted}
-use Rattle.oath_node.specs.TurnServing.{Serves}
+use Rattle.oath_node.specs.TurnServing.{ServesUntil}
 use Rattle.oath_node.specs.declared.serve_fault.ServeFault.{ServeFault}
 use Rattle.oath_node.specs.declared.turns.Served.{Served}
 use Rattle.named_store.specs.declared.opening.RowCounts.{RowCounts}
@@ -54,15 +54,16 @@ packer_of naming =
 
 -- ---- the turns
 
--- A node was served for some turns through a translator, over a port that tells floors, over one that joins datagrams.
+-- A node was served for the turns, or until an answer ended them, through a translator, over a port that tells floors,
+-- over one that joins datagrams.
 -- All were new at the start. `below` is the record at the end of the port below the last one.
 pub record ServesNamed {S : Type 0} (held : S → Held) (old new : Hosted S) (start : TranslatorRecord)
-    (packer : PackerRecord) (below : Option (List PortEvent)) (turns : ℕ) (end : Result Served ServeFault)
-    : Type 0 where
+    (packer : PackerRecord) (below : Option (List PortEvent)) (turns : ℕ) (answers : ℕ → Bool → Bool → Type 0)
+    (end : Result Served ServeFault) : Type 0 where
   -- the events that the translator received, and the node's offers
   pub calls : List PortEvent
   -- the node received what the translator handed in for them
-  pub serves : Serves held old new (Some []) (Some (handed_events start calls)) None None turns end
+  pub serves : ServesUntil held old new (Some []) (Some (handed_events start calls)) None None turns answers end
   -- the calls of the port that tells floors
   pub told : List Call
   pub is_made : may_make packer told ≡ true
@@ -76,25 +77,27 @@ pub record ServesNamed {S : Type 0} (held : S → Held) (old new : Hosted S) (st
   -- the port below was offered these datagrams, alone or joined
   pub below_is : (events : List PortEvent) → below ≡ Some events → events ≡ joining.below_events new_bundler joined
 
--- A node was served for some turns through a new translator, a new packer and a new bundler over a port with the setup.
--- The port kept a record, and had received and offered nothing. The run ended with `result`.
+-- A node was served for the turns through a new translator, a new packer and a new bundler over a port with the setup,
+-- or until an answer ended them. The port kept a record, and had received and offered nothing. The run ended with
+-- `result`.
 pub record IsServedNamed {S : Type 0} (held : S → Held) (old new : Hosted S) (setup : Setup)
-    (start : TranslatorRecord) (packer : PackerRecord) (turns : ℕ) (result : Result Served Fault) : Type 0 where
+    (start : TranslatorRecord) (packer : PackerRecord) (turns : ℕ) (answers : ℕ → Bool → Bool → Type 0)
+    (result : Result Served Fault) : Type 0 where
   -- the port's record at the end
   pub events : List PortEvent
   -- the calls of its socket, as the port noted them
   pub calls : SocketCalls
   pub of_setup : AreEventsOf setup calls events
   pub end : Result Served ServeFault
-  pub serves : ServesNamed held old new start packer (Some events) turns end
+  pub serves : ServesNamed held old new start packer (Some events) turns answers end
   pub ends : result ≡ serve_end end
 
 -- ---- the command
 
 module _ {S : Type 0} (g : Ghosts S) (finds : sql.Held S → Type 0) (cluster : NamedCluster) (moment : ℕ)
-    (serving : Serving) where
-  -- A node was opened over its store and served for the given turns, or until the fault that ended them. The store was
-  -- opened for the tokens of the users file, by their names. The node speaks to the other members by the same names.
+    (serving : Serving) (answers : ℕ → Bool → Bool → Type 0) where
+  -- A node was opened over its store and served for the given turns, or until an answer or a fault ended them. The store
+  -- was opened for the tokens of the users file, by their names. The node speaks to the other members by the same names.
   pub record HasServedNamed (result : Result Served Fault) (text : List ℕ) : Type 0 where
     pub import : HasImport serving.settings moment 16777216 text
     pub found : SeatedRecord (SqlHeld S)
@@ -124,7 +127,7 @@ module _ {S : Type 0} (g : Ghosts S) (finds : sql.Held S → Type 0) (cluster : 
         let names = names_of cluster.salt import.book in
         let me = serving.place.me in
         IsServedNamed (seated_held (sql_held g)) first last setup (new_translator key names me boot)
-        (new_packer key names me boot serving.place.n floors) serving.turns result
+        (new_packer key names me boot serving.place.n floors) serving.turns answers result
 
   -- A command that serves a node by names ends with the fault: before the first turn, or in a turn, with all that was
   -- served until then.

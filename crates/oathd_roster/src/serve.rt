@@ -23,9 +23,9 @@ use floor_store::FloorStore;
 use named_port::{NamedPort, Names};
 use named_store::RowCounts;
 use node_log::{Gatekeeper, Roster};
-use oath_node::{Node, Served};
+use oath_node::{Node, Served, Until};
 use oathd_database::{
-    Database, Fault, Front, ServeLog, Serving, front_of, log_of, open_node, serve_port, socket_at,
+    Database, Fault, Front, KeptSocket, ServeLog, Serving, front_of, log_of, open_node, serve_port,
     start_of, tag_key,
 };
 use sealed_port::SealedPort;
@@ -46,13 +46,14 @@ use vote_wire::ClusterKey;
 /// # Errors
 /// - Returns `Memory` if the allocator refuses the memory for the floors that the port tells. The node is as it was.
 /// - Returns the errors of [`serve_port`].
-fn serve_named<S: FloorStore, P: Gatekeeper + Drop, N: TimeSource, W: Write>(
+fn serve_named<S: FloorStore, P: Gatekeeper + Drop, N: TimeSource, W: Write, U: Until>(
     alloc: Global,
     node: &mut Node<'_, S>,
     port: P,
     naming: &Naming,
     outside: &N,
     turns: u64,
+    until: &mut U,
     log: Option<ServeLog>,
     writer: &mut W,
 ) -> Result<Served, Fault>
@@ -62,7 +63,7 @@ fn serve_named<S: FloorStore, P: Gatekeeper + Drop, N: TimeSource, W: Write>(
     ensures turns { ((result ≡ Err Fault.Memory) × (node.new ≡ node.old))
         ⊎ ((end : Result Served ServeFault) × (last : P)
         × ServesNamed S.held node.old node.new (translator_of naming.now) (packer_of naming.now) (P.events last)
-        turns end × (P.setup last ≡ P.setup port) × (result ≡ serve_end end)) }
+        turns (U.answers until.new) end × (P.setup last ≡ P.setup port) × (result ≡ serve_end end)) }
     ensures unlogged { log ≡ None → writer.new ≡ writer.old }
 {
     let (key, names, member) = (&naming.key, &naming.names, naming.node);
@@ -72,7 +73,7 @@ fn serve_named<S: FloorStore, P: Gatekeeper + Drop, N: TimeSource, W: Write>(
     };
     let named = NamedPort::new(telling, key, names, member.me, member.boot);
     let bare = ClusterKey::bare();
-    serve_port(node, named, outside, turns, &bare, log, writer)
+    serve_port(node, named, outside, turns, until, &bare, log, writer)
 }
 
 /// Serves a node by names over a socket, for the clients that `front` lets through, with a log if there is one. Without
@@ -80,7 +81,7 @@ fn serve_named<S: FloorStore, P: Gatekeeper + Drop, N: TimeSource, W: Write>(
 ///
 /// # Errors
 /// Returns the errors of [`serve_named`].
-fn serve_front<S: FloorStore, N: TimeSource, W: Write>(
+fn serve_front<S: FloorStore, N: TimeSource, W: Write, U: Until>(
     alloc: Global,
     node: &mut Node<'_, S>,
     port: UdpPort<&N>,
@@ -88,6 +89,7 @@ fn serve_front<S: FloorStore, N: TimeSource, W: Write>(
     outside: &N,
     front: Front,
     turns: u64,
+    until: &mut U,
     log: Option<ServeLog>,
     writer: &mut W,
 ) -> Result<Served, Fault>
@@ -95,18 +97,25 @@ fn serve_front<S: FloorStore, N: TimeSource, W: Write>(
     requires calls { port.calls.made ≡ [] }
     requires plain { (port.skips_answers ≡ true) × (port.takes_loopback_alone ≡ false) }
     ensures turns { ((result ≡ Err Fault.Memory) × (node.new ≡ node.old)) ⊎ IsServedNamed S.held node.old node.new
-        (setup_behind port.entry.members.items front) (translator_of naming.now) (packer_of naming.now) turns result }
+        (setup_behind port.entry.members.items front) (translator_of naming.now) (packer_of naming.now)
+        turns (U.answers until.new) result }
     ensures unlogged { log ≡ None → writer.new ≡ writer.old }
 {
     match front {
-        Front::Anybody => serve_named(alloc, node, port, naming, outside, turns, log, writer),
+        Front::Anybody => serve_named(
+            alloc, node, port, naming, outside, turns, until, log, writer,
+        ),
         Front::ThisMachine => {
             let port = port.taking_loopback_alone();
-            serve_named(alloc, node, port, naming, outside, turns, log, writer)
+            serve_named(
+                alloc, node, port, naming, outside, turns, until, log, writer,
+            )
         }
         Front::Gate(gate) => {
             let port = SealedPort::new(port.under_gate(), SystemClock::new(outside), gate);
-            serve_named(alloc, node, port, naming, outside, turns, log, writer)
+            serve_named(
+                alloc, node, port, naming, outside, turns, until, log, writer,
+            )
         }
     }
 }
@@ -158,7 +167,9 @@ fn indexed_names(alloc: Global, named: &NamedUsers) -> Result<Names, Fault>
 }
 
 /// Opens a node over its store by names in a new boot, binds a UDP socket to its address, and serves it for the given
-/// turns.
+/// turns, or until `until` ends them.
+///
+/// The socket is bound if `socket` isn't yet, and stays bound.
 ///
 /// The store is opened as [`open_named_store`] does. The node speaks to the other members by the names of its tokens,
 /// under the key of `serving`. In the process, it speaks to its port under the bare key. It tells the other members the
@@ -181,6 +192,7 @@ pub fn serve_named_store<
     D: Database<S>,
     N: Net + TimeSource,
     W: Write,
+    U: Until,
 >(
     alloc: Global,
     outside: &N,
@@ -189,13 +201,15 @@ pub fn serve_named_store<
     serving: Serving<'_>,
     cluster: &NamedCluster,
     database: D,
+    socket: &mut KeptSocket,
+    until: &mut U,
     writer: &mut W,
 ) -> Result<Served, RosterFault>
     requires { IsMoment moment }
     ensures served { IfOk result (λ served. IfSome (R.remaining users)
-        (HasServedNamed S.Store D.finds cluster.now moment serving.entry (Ok served))) }
+        (HasServedNamed S.Store D.finds cluster.now moment serving.entry (U.answers until.new) (Ok served))) }
     ensures fault { IfErr result (λ fault. IfSome (R.remaining users)
-        (EndsServingNamed S.Store D.finds cluster.now moment serving.entry fault)) }
+        (EndsServingNamed S.Store D.finds cluster.now moment serving.entry (U.answers until.new) fault)) }
     ensures unlogged { serving.entry.is_logged ≡ false → writer.new ≡ writer.old }
 {
     let Serving {
@@ -229,12 +243,12 @@ pub fn serve_named_store<
     };
     let bare = ClusterKey::bare();
     let mut node = open_node(alloc, book, settings, place, &bare, store)?;
-    let port = UdpPort::new(socket_at(outside, address)?, members, outside);
+    let port = UdpPort::new(socket.handle(outside, address)?, members, outside);
     let front = front_of(alloc, place.me(), lines, outside)?;
     let roster = roster_of(alloc, is_logged, counts, book, &naming.key)?;
     let log = log_of(is_logged, start, roster, place);
     let served = serve_front(
-        alloc, &mut node, port, &naming, outside, front, turns, log, writer,
+        alloc, &mut node, port, &naming, outside, front, turns, until, log, writer,
     )?;
     Ok(served)
 }

@@ -65,7 +65,7 @@ module _ (found : Found) where
   pub no_cluster : ((cluster : ClusterWords) → AsksForCluster found cluster → ⊥) → (action : Action) → AsksForAction (codes "serve") found action → ⊥
   no_cluster none (Init node settings moment) asks = apart (codes "serve") _ _ asks.0 refl (lit< tt)
   no_cluster none (Remake node settings moment former) asks = apart (codes "serve") _ _ asks.0 refl (lit< tt)
-  no_cluster none (Serve cluster turns is_logged clients) asks = none cluster asks.1
+  no_cluster none (Serve cluster turns is_logged clients reloads) asks = none cluster asks.1
   no_cluster none Export asks = apart (codes "serve") _ _ asks.0 refl (lit< tt)
   no_cluster none (Audit node) asks = apart (codes "serve") _ _ asks.0 refl (lit< tt)
   no_cluster none (Migrate node) asks = apart (codes "serve") _ _ asks.0 refl (lit< tt)
@@ -79,7 +79,7 @@ module _ (found : Found) where
   pub no_turns : turns_given found ≡ None → (action : Action) → AsksForAction (codes "serve") found action → ⊥
   no_turns none (Init node settings moment) asks = apart (codes "serve") _ _ asks.0 refl (lit< tt)
   no_turns none (Remake node settings moment former) asks = apart (codes "serve") _ _ asks.0 refl (lit< tt)
-  no_turns none (Serve cluster turns is_logged clients) asks = let clash = sym none ∙ asks.2 in absurd cc
+  no_turns none (Serve cluster turns is_logged clients reloads) asks = let clash = sym none ∙ asks.2 in absurd cc
   no_turns none Export asks = apart (codes "serve") _ _ asks.0 refl (lit< tt)
   no_turns none (Audit node) asks = apart (codes "serve") _ _ asks.0 refl (lit< tt)
   no_turns none (Migrate node) asks = apart (codes "serve") _ _ asks.0 refl (lit< tt)

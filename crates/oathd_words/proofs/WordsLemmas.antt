@@ -43,7 +43,7 @@ act_name (acts.Level floors) = codes "level"
 abbrev action_name : Action → List ℕ
 action_name (Init node import moment) = codes "init"
 action_name (Remake node import moment former) = codes "init"
-action_name (Serve cluster turns is_logged clients) = codes "serve"
+action_name (Serve cluster turns is_logged clients reloads) = codes "serve"
 action_name Export = codes "export"
 action_name (Audit node) = codes "audit"
 action_name (Migrate node) = codes "migrate"
@@ -70,7 +70,7 @@ act_stored (acts.Level floors) = refl
 store_named : (action : Action) → is_store_name (action_name action) ≡ true
 store_named (Init node import moment) = refl
 store_named (Remake node import moment former) = refl
-store_named (Serve cluster turns is_logged clients) = refl
+store_named (Serve cluster turns is_logged clients reloads) = refl
 store_named Export = refl
 store_named (Audit node) = refl
 store_named (Migrate node) = refl
@@ -94,7 +94,7 @@ act_so name found (acts.Level floors) asks = asks.0
 pub named_so : (name : List ℕ) (found : Found) (action : Action) → AsksForAction name found action → name ≡ action_name action
 named_so name found (Init node import moment) asks = asks.0
 named_so name found (Remake node import moment former) asks = asks.0
-named_so name found (Serve cluster turns is_logged clients) asks = asks.0
+named_so name found (Serve cluster turns is_logged clients reloads) asks = asks.0
 named_so name found Export asks = asks.0
 named_so name found (Audit node) asks = asks.0
 named_so name found (Migrate node) asks = asks.0
@@ -195,7 +195,7 @@ pub no_init_node : (found : Found) → ((number : ℕ) → GivesMember found (co
     → AsksForAction (codes "init") found action → ⊥
 no_init_node found none (Init node import moment) asks = none node asks.3
 no_init_node found none (Remake node import moment former) asks = none node asks.3
-no_init_node found none (Serve cluster turns is_logged clients) asks = apart (codes "init") _ _ refl asks.0 (lit< tt)
+no_init_node found none (Serve cluster turns is_logged clients reloads) asks = apart (codes "init") _ _ refl asks.0 (lit< tt)
 no_init_node found none Export asks = apart (codes "init") _ _ asks.0 refl (lit< tt)
 no_init_node found none (Audit node) asks = apart (codes "init") _ _ asks.0 refl (lit< tt)
 no_init_node found none (Migrate node) asks = apart (codes "init") _ _ refl asks.0 (lit< tt)

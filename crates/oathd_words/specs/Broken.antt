@@ -77,11 +77,11 @@ usual_remake former = Remake 1 (imports.Given default_limits) None former
 
 -- a run of `turns` receives for a node of the cluster file
 abbrev pub serve_for : ℕ → ℕ → Action
-serve_for turns node = Serve (named_cluster node) turns false ThisMachine
+serve_for turns node = Serve (named_cluster node) turns false ThisMachine false
 
 -- a run for the first of `members`
 abbrev pub usual_serve : Vec SocketAddrV4 → Action
-usual_serve members = Serve (given_cluster 1 members) 0 false Anybody
+usual_serve members = Serve (given_cluster 1 members) 0 false Anybody false
 
 -- a floors file for nine members, or for the members of the cluster file
 abbrev pub floors_of : ℕ → Action

@@ -119,9 +119,10 @@ AsksForAction name found (Remake node import moment former) =
     (name ≡ codes "init") × (begins found ≡ false) × (is_of_former found ≡ true)
     × GivesMember found (codes "node") node × AsksForImport found import × GivesMoment found moment
     × (former_given found ≡ Some (former_value former))
-AsksForAction name found (Serve cluster turns is_logged clients) =
+AsksForAction name found (Serve cluster turns is_logged clients reloads) =
     (name ≡ codes "serve") × AsksForCluster found cluster × (turns_given found ≡ Some turns)
     × (is_logged ≡ is_flag (first_value found (codes "log"))) × AsksForClients found clients
+    × (reloads ≡ is_flag (first_value found (codes "reload")))
 AsksForAction name found Export = (name ≡ codes "export") × (first_value found (codes "cluster") ≡ None)
 AsksForAction name found (Audit node) =
     (name ≡ codes "audit") × GivesMember found (codes "node") node × (first_value found (codes "cluster") ≡ None)
@@ -158,7 +159,7 @@ IsActionInRange (Init node import None) = (1 ≤ node) × (node ≤ 9)
 IsActionInRange (Init node import (Some moment)) = (1 ≤ node) × (node ≤ 9) × IsMoment moment
 IsActionInRange (Remake node import None former) = (1 ≤ node) × (node ≤ 9)
 IsActionInRange (Remake node import (Some moment) former) = (1 ≤ node) × (node ≤ 9) × IsMoment moment
-IsActionInRange (Serve cluster turns is_logged clients) = IsClusterInRange cluster × (turns < 2 ^ 54)
+IsActionInRange (Serve cluster turns is_logged clients reloads) = IsClusterInRange cluster × (turns < 2 ^ 54)
 IsActionInRange Export = Unit {0}
 IsActionInRange (Audit node) = (1 ≤ node) × (node ≤ 9)
 IsActionInRange (Migrate node) = (1 ≤ node) × (node ≤ 9)

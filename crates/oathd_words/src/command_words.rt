@@ -9,8 +9,8 @@ use crate::option_words::{
     ANEW, BEGINS, CHECKED_CLUSTER, CLIENTS, CLOCK_MOMENT, CLUSTER, COUNT_CLUSTER, DATABASE, DRIFT,
     FLOORS, FOREVER, FORMER_FLOORS, HEX, IMPORT_CLUSTER, IMPORT_DRIFT, KEY, KEY_OR_ZEROS, LOG,
     LOOK_AHEAD, LOST, MEMBER_COUNT, MEMBERS, MOMENT, NAMES_CLUSTER, NAMES_NODE, NODE, NODE_CLUSTER,
-    NODE_COUNT, NODES_CLUSTER, PLAIN_LINES, RANGE, SINCE, SINCE_NUMBER, SKEW, STDIN, TURNS, USER,
-    USERS, Word,
+    NODE_COUNT, NODES_CLUSTER, PLAIN_LINES, RANGE, RELOAD, SINCE, SINCE_NUMBER, SKEW, STDIN, TURNS,
+    USER, USERS, Word,
 };
 use crate::store_words::is_given;
 use clap::error::ErrorKind;
@@ -128,7 +128,8 @@ pub(crate) const COMMANDS: [CommandWords; 18] = [
             &[Word::Text(CLUSTER), Word::Text(MEMBERS), Word::Text(KEY)],
             SETTINGS,
             &[Word::Text(CLIENTS), Word::Flag(PLAIN_LINES)],
-            &[Word::Number(TURNS), Word::Flag(FOREVER), Word::Flag(LOG)],
+            &[Word::Number(TURNS), Word::Flag(FOREVER)],
+            &[Word::Flag(LOG), Word::Flag(RELOAD)],
         ],
     },
     CommandWords {

@@ -172,6 +172,10 @@ With --log it prints a line for each answer, with the client's address, the
 answer as it was sent, and the user. It never prints a code, a password or a
 secret.
 
+With --reload it takes USERS again when the file changes, if the cluster file
+gives names. A file that has a fault or no token is not taken, and the log says
+so.
+
 A cluster file stands for --members, --key and the numbers of a search. Nodes
 with one hear each other only if their files say the same, and their users files
 have the same users, in the same order. oathd check prints what they share.

@@ -367,6 +367,15 @@ pub(crate) const LOG: FlagWord = FlagWord {
         and for the start and the end",
 };
 
+/// The flag that makes a node take its users file again when it changes.
+pub(crate) const RELOAD: FlagWord = FlagWord {
+    name: "reload",
+    conflicts: &["members", "key"],
+    needs: &["cluster"],
+    help: "Take the users file again when it changes. The cluster file has to\n\
+        give names",
+};
+
 /// The cluster file of an import.
 pub(crate) const IMPORT_CLUSTER: TextWord = TextWord {
     name: "cluster",

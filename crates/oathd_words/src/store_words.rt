@@ -126,6 +126,8 @@ pub enum Action<'a> {
         /// Whether the node writes a log.
         is_logged: bool,
         clients: ClientWords<'a>,
+        /// Whether the node takes its users file again when it changes.
+        reloads: bool,
     },
     /// Prints a users file with the store's content.
     Export,
@@ -442,11 +444,13 @@ fn serve_action<'a>(
     };
     let is_logged = is_given(matches, "log");
     let clients = client_words(matches);
+    let reloads = is_given(matches, "reload");
     Ok(Some(Action::Serve {
         cluster,
         turns,
         is_logged,
         clients,
+        reloads,
     }))
 }
 

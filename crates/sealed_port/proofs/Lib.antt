@@ -1,6 +1,9 @@
+pub mod CameLemmas
 pub mod LifeLemmas
 pub mod OpenLemmas
 pub mod PortLemmas
+pub mod ReportLemmas
+pub mod RequestLemmas
 pub mod RunLemmas
 pub mod SetupLemmas
 pub mod WorldLemmas

@@ -2,18 +2,17 @@
 use Rattle.std.proofs.Common.{◌≡◌, ℕ, ◌+◌, Bool, true, false, cond, List, [], ◌∷◌, ◌++◌, take, Option, Some, None, refl, sym, ap, subst, ◌∙◌, length-append}
 use Rattle.std.specs.List.{AllByRecursion}
 use Rattle.std.specs.Option.{option_map}
-use Rattle.std.specs.Prelude.{Result, Ok, Err}
-use Rattle.std.specs.Result.{result_err, result_ok}
 use Rattle.std.proofs.lemmas.List.{append_assoc, append-nil, map-append}
 use Rattle.datagram_port.specs.Port.{Grows, PortEvent, Received, Quiet, Faulted, Offered, event_of_receive}
 use Rattle.datagram_port.specs.declared.port.Received.{Received as Receive}
 use Rattle.datagram_port.specs.declared.port.Received.TheVariants.{Datagram, Quiet as QuietReceive, Fault}
 use Rattle.datagram_port.specs.declared.port.Sender.TheVariants.{Client, Peer}
 use Rattle.sealed_port.specs.Causes.{counted}
-use Rattle.sealed_port.specs.Gate.{GateRecord, SealedLine, cause_of, gate_with, is_plain, opened, ruling}
-use Rattle.sealed_port.specs.declared.cause.Cause.{Cause}
-use Rattle.sealed_port.specs.Port.{Opens, Passed, PassesOver, TakesIn, counted_after, counted_over, event_of_passed, gate_after, handed_in, handed_line, sealed_from, told_for}
+use Rattle.sealed_port.specs.Gate.{GateRecord, is_plain}
+use Rattle.sealed_port.specs.Requests.{cause_came, gate_came}
+use Rattle.sealed_port.specs.Port.{Opens, Passed, PassesOver, TakesIn, counted_after, counted_over, event_of_passed, gate_after, handed_in, handed_sealed, sealed_from, told_for}
 use Rattle.sealed_port.specs.declared.cause.Unopened.{Unopened}
+use Rattle.sealed_port.proofs.CameLemmas.{handed_uncounted, unhanded_stays}
 
 -- ---- records
 
@@ -67,10 +66,10 @@ kept moments gate unopened (Datagram (Client address) len) buffer e =
     let bytes = take len buffer in
     let plain = none_is_plain (is_plain gate address) (address, len) e in
     unasked moments gate unopened (Received (Client address) bytes)
-    (front (is_plain gate address) (Some (Received (Client address) bytes)) (handed_line (opened gate None bytes)) plain)
-    (front (is_plain gate address) gate (gate_with gate None address (opened gate None bytes)) plain)
+    (front (is_plain gate address) (Some (Received (Client address) bytes)) (handed_sealed gate None address bytes) plain)
+    (front (is_plain gate address) gate (gate_came gate None address bytes) plain)
     (front (is_plain gate address) [] (None ∷ []) plain)
-    (front (is_plain gate address) unopened (counted unopened (cause_of gate None bytes)) plain)
+    (front (is_plain gate address) unopened (counted unopened (cause_came gate None address bytes)) plain)
 kept moments gate unopened (Datagram (Peer number) len) buffer e = unasked moments gate unopened (Received (Peer number) (take len buffer)) refl refl refl refl
 kept moments gate unopened QuietReceive buffer e = unasked moments gate unopened (event_of_receive QuietReceive buffer) refl refl refl refl
 kept moments gate unopened Fault buffer e = unasked moments gate unopened (event_of_receive Fault buffer) refl refl refl refl
@@ -78,9 +77,9 @@ kept moments gate unopened Fault buffer e = unasked moments gate unopened (event
 -- a datagram from such an address is opened, or passed over and counted
 pub taken : (old_clock new_clock : Option (List (Option ℕ))) (gate after : GateRecord) (before counts : Unopened) (received : Receive) (buffer : List ℕ) (address len : ℕ) (handed : Option PortEvent)
     → sealed_from gate received ≡ Some (address, len)
-    → ((now : Option ℕ) × Grows old_clock new_clock (now ∷ []) × (handed ≡ handed_line (opened gate now (take len buffer)))
-    × (after ≡ gate_with gate now address (opened gate now (take len buffer)))
-    × (counts ≡ counted before (cause_of gate now (take len buffer))))
+    → ((now : Option ℕ) × Grows old_clock new_clock (now ∷ []) × (handed ≡ handed_sealed gate now address (take len buffer))
+    × (after ≡ gate_came gate now address (take len buffer))
+    × (counts ≡ counted before (cause_came gate now address (take len buffer))))
     → TakesIn old_clock new_clock gate after before counts (event_of_receive received buffer) handed
 taken old_clock new_clock gate after before counts (Datagram (Client from) size) buffer address len handed e answer =
     let found = some_is_sealed (is_plain gate from) (from, size) (address, len) e in
@@ -92,12 +91,12 @@ taken old_clock new_clock gate after before counts (Datagram (Client from) size)
     record {
       now = now;
       clock = subst (Grows old_clock new_clock) (sym (back (is_plain gate from) [] (now ∷ []) found.0)) answer.1;
-      handed_is = answer.2 ∙ ap (λ (b : List ℕ). handed_line (opened gate now b)) bytes_same
-          ∙ sym (back (is_plain gate from) (Some (Received (Client from) bytes)) (handed_line (opened gate now bytes)) found.0);
-      gate_is = answer.3 ∙ ap (λ (b : List ℕ). gate_with gate now address (opened gate now b)) bytes_same ∙ ap (λ (a : ℕ). gate_with gate now a (opened gate now bytes)) (sym same_from)
-          ∙ sym (back (is_plain gate from) gate (gate_with gate now from (opened gate now bytes)) found.0);
-      counts = answer.4 ∙ ap (λ (b : List ℕ). counted before (cause_of gate now b)) bytes_same
-          ∙ sym (back (is_plain gate from) before (counted before (cause_of gate now bytes)) found.0);
+      handed_is = answer.2 ∙ ap (λ (b : List ℕ). handed_sealed gate now address b) bytes_same ∙ ap (λ (a : ℕ). handed_sealed gate now a bytes) (sym same_from)
+          ∙ sym (back (is_plain gate from) (Some (Received (Client from) bytes)) (handed_sealed gate now from bytes) found.0);
+      gate_is = answer.3 ∙ ap (λ (b : List ℕ). gate_came gate now address b) bytes_same ∙ ap (λ (a : ℕ). gate_came gate now a bytes) (sym same_from)
+          ∙ sym (back (is_plain gate from) gate (gate_came gate now from bytes) found.0);
+      counts = answer.4 ∙ ap (λ (b : List ℕ). counted before (cause_came gate now address b)) bytes_same ∙ ap (λ (a : ℕ). counted before (cause_came gate now a bytes)) (sym same_from)
+          ∙ sym (back (is_plain gate from) before (counted before (cause_came gate now from bytes)) found.0);
     }
 taken old_clock new_clock gate after before counts (Datagram (Peer number) size) buffer address len handed e answer = absurd cc
 taken old_clock new_clock gate after before counts QuietReceive buffer address len handed e answer = absurd cc
@@ -112,23 +111,22 @@ record IsPassed (gate : GateRecord) (now : Option ℕ) (event : PortEvent) (befo
   now_is : one.now ≡ now
   told_is : told_for gate now event ≡ one.now ∷ []
   gate_is : gate_after gate now event ≡ gate
-  counts_are : counted_after gate before now event ≡ counted before (cause_of gate one.now one.bytes)
+  counts_are : counted_after gate before now event ≡ counted before (cause_came gate one.now one.address one.bytes)
 
-unhanded : (b : Bool) (x : PortEvent) (o : Option SealedLine) → cond b (Some x) (handed_line o) ≡ None → (b ≡ false) × (o ≡ None)
+unhanded : (b : Bool) (x : PortEvent) (o : Option PortEvent) → cond b (Some x) o ≡ None → (b ≡ false) × (o ≡ None)
 unhanded true x o e = absurd cc
-unhanded false x None e = (refl, refl)
-unhanded false x (Some line) e = absurd cc
+unhanded false x o e = (refl, e)
 
 passed_is : (gate : GateRecord) (now : Option ℕ) (event : PortEvent) (before : Unopened) → handed_in gate now event ≡ None → IsPassed gate now event before
 passed_is gate now (Received (Client address) bytes) before e =
-    let u = unhanded (is_plain gate address) (Received (Client address) bytes) (opened gate now bytes) e in
+    let u = unhanded (is_plain gate address) (Received (Client address) bytes) (handed_sealed gate now address bytes) e in
     record {
       one = record { now = now; address = address; bytes = bytes };
       event_is = refl;
       now_is = refl;
       told_is = back (is_plain gate address) [] (now ∷ []) u.0;
-      gate_is = back (is_plain gate address) gate (gate_with gate now address (opened gate now bytes)) u.0 ∙ ap (gate_with gate now address) u.1;
-      counts_are = back (is_plain gate address) before (counted before (cause_of gate now bytes)) u.0;
+      gate_is = back (is_plain gate address) gate (gate_came gate now address bytes) u.0 ∙ unhanded_stays gate now address bytes u.1;
+      counts_are = back (is_plain gate address) before (counted before (cause_came gate now address bytes)) u.0;
     }
 passed_is gate now (Received (Peer number) bytes) before e = absurd cc
 passed_is gate now Quiet before e = absurd cc
@@ -141,9 +139,9 @@ all_and_one P [] x h k = (k, tt)
 all_and_one P (y ∷ xs) x h k = (h.0, all_and_one P xs x h.1 k)
 
 counted_and_one : (gate : GateRecord) (before : Unopened) (passed : List Passed) (one : Passed)
-    → counted_over gate before (passed ++ one ∷ []) ≡ counted (counted_over gate before passed) (cause_of gate one.now one.bytes)
+    → counted_over gate before (passed ++ one ∷ []) ≡ counted (counted_over gate before passed) (cause_came gate one.now one.address one.bytes)
 counted_and_one gate before [] one = refl
-counted_and_one gate before (other ∷ passed) one = counted_and_one gate (counted before (cause_of gate other.now other.bytes)) passed one
+counted_and_one gate before (other ∷ passed) one = counted_and_one gate (counted before (cause_came gate other.now other.address other.bytes)) passed one
 
 -- nothing was passed over yet
 pub none_passed : (port : Option (List PortEvent)) (clock : Option (List (Option ℕ))) (gate : GateRecord) (unopened : Unopened)
@@ -181,17 +179,17 @@ one_passed {old_port = old_port} {port = port} {new_port = new_port} {old_clock 
           port = subst (Grows old_port new_port) (sym (map-append event_of_passed p.passed (i.one ∷ []))) (grows_on old_port port new_port _ _ p.port entry);
           clock = subst (Grows old_clock new_clock) (sym (map-append (λ (one : Passed). one.now) p.passed (i.one ∷ []))) (grows_on old_clock clock new_clock _ _ p.clock told);
           gate_is = t.gate_is ∙ i.gate_is;
-          counts = t.counts ∙ i.counts_are ∙ ap (λ (u : Unopened). counted u (cause_of gate i.one.now i.one.bytes)) p.counts ∙ sym (counted_and_one gate before p.passed i.one);
+          counts = t.counts ∙ i.counts_are ∙ ap (λ (u : Unopened). counted u (cause_came gate i.one.now i.one.address i.one.bytes)) p.counts ∙ sym (counted_and_one gate before p.passed i.one);
         }
 
 -- what is handed in changes no numbers
 uncounted : (gate : GateRecord) (unopened : Unopened) (now : Option ℕ) (event handed : PortEvent) → handed_in gate now event ≡ Some handed → counted_after gate unopened now event ≡ unopened
-uncounted gate unopened now (Received (Client address) bytes) handed e = go (is_plain gate address) (ruling gate now bytes) e
+uncounted gate unopened now (Received (Client address) bytes) handed e = go (is_plain gate address) e
   where
-    go : (b : Bool) (r : Result SealedLine Cause) → cond b (Some (Received (Client address) bytes)) (handed_line (result_ok r)) ≡ Some handed → cond b unopened (counted unopened (result_err r)) ≡ unopened
-    go true r e = refl
-    go false (Ok line) e = refl
-    go false (Err cause) e = absurd cc
+    go : (b : Bool) → cond b (Some (Received (Client address) bytes)) (handed_sealed gate now address bytes) ≡ Some handed
+        → cond b unopened (counted unopened (cause_came gate now address bytes)) ≡ unopened
+    go true e = refl
+    go false e = handed_uncounted gate now address bytes handed unopened e
 uncounted gate unopened now (Received (Peer number) bytes) handed e = refl
 uncounted gate unopened now Quiet handed e = refl
 uncounted gate unopened now Faulted handed e = refl

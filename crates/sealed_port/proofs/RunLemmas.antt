@@ -13,7 +13,8 @@ use Rattle.replay_window.proofs.OnceLemmas.{IsCovered, covers_itself, fresh_is_a
 use Rattle.sealed_port.specs.Asked.{AskedRecord, clashes, is_of, line_at, nonce_of, place_of, remembered, without}
 use Rattle.sealed_wire.specs.Sealed.{sealed_bytes}
 use Rattle.sealed_port.specs.Gate.{GateRecord, Sealed, SealedLine, admits, answer_head, answer_to, answer_under, answered, answered_place, asked_of, gate_with, is_admitted, named, opened, with_moment}
-use Rattle.sealed_port.specs.Runs.{IsAmong, IsAnswerOf, Step, Comes, Answers, gate_run, gate_step, is_same, opened_by, opened_in, opening_of}
+use Rattle.sealed_port.specs.Runs.{IsAmong, IsAnswerOf, Step, Comes, Answers, Takes, gate_run, gate_step, is_same, opened_by, opened_in, opening_of}
+use Rattle.sealed_port.specs.Requests.{gate_aside, gate_came, requested}
 use Rattle.sealed_port.specs.declared.client.Client.{Client}
 use Rattle.sealed_port.proofs.OpenLemmas.{opened_law}
 
@@ -23,14 +24,14 @@ present x = Some x
 some_is : {A : Type 0} (x y : A) → present x ≡ present y → x ≡ y
 some_is x y e = cc
 
-bool_cases : (a : Bool) → (a ≡ true) ⊎ (a ≡ false)
+pub bool_cases : (a : Bool) → (a ≡ true) ⊎ (a ≡ false)
 bool_cases true = inl refl
 bool_cases false = inr refl
 
 -- ---- the client with a number, after a window has seen a moment
 
 -- the number stays
-number_stays : (b : Bool) (client : Client) (moment : ℕ) → (cond b (record client { window = with_seen client.window moment }) client).number ≡ client.number
+pub number_stays : (b : Bool) (client : Client) (moment : ℕ) → (cond b (record client { window = with_seen client.window moment }) client).number ≡ client.number
 number_stays true client moment = refl
 number_stays false client moment = refl
 
@@ -64,7 +65,7 @@ option_cases None = inl refl
 option_cases (Some x) = inr (x, refl)
 
 -- what a client's window covers stays covered
-keeps_cover : (b : Bool) (client : Client) (moment other : ℕ) → IsCovered client.window other
+pub keeps_cover : (b : Bool) (client : Client) (moment other : ℕ) → IsCovered client.window other
     → IsCovered (cond b (record client { window = with_seen client.window moment }) client).window other
 keeps_cover true client moment other h = stays_covered client.window moment other h
 keeps_cover false client moment other h = h
@@ -83,14 +84,15 @@ stays_seen gate now address (Some line) n m h = λ client e.
 stays_seen_step : (gate : GateRecord) (step : Step) (n m : ℕ) → IsSeen gate n m → IsSeen (gate_step gate step) n m
 stays_seen_step gate (Comes now address bytes) n m h = stays_seen gate now address (opened gate now bytes) n m h
 stays_seen_step gate (Answers client answer) n m h = h
+stays_seen_step gate Takes n m h = h
 
-is_itself : (n k : ℕ) → n ≡ k → eqb n k ≡ true
+pub is_itself : (n k : ℕ) → n ≡ k → eqb n k ≡ true
 is_itself n k e = elim (bool_cases (eqb n k)) [
   | inl is ↦ is
   | inr apart ↦ absurd (eqb-false n k apart e)
 ]
 
-covers_here : (b : Bool) (client : Client) (moment : ℕ) → b ≡ true → IsCovered (cond b (record client { window = with_seen client.window moment }) client).window moment
+pub covers_here : (b : Bool) (client : Client) (moment : ℕ) → b ≡ true → IsCovered (cond b (record client { window = with_seen client.window moment }) client).window moment
 covers_here true client moment e = covers_itself client.window moment
 covers_here false client moment e = absurd cc
 
@@ -117,7 +119,7 @@ admits_apart : (o : Option Client) (now m x : ℕ) → admits o now m ≡ true �
 admits_apart None now m x h seen = absurd cc
 admits_apart (Some client) now m x h seen = fresh_is_apart client.window now m x (seen client refl) h
 
-and_false : (a : Bool) → (a && false) ≡ false
+pub and_false : (a : Bool) → (a && false) ≡ false
 and_false true = refl
 and_false false = refl
 
@@ -140,6 +142,7 @@ all_append P (x ∷ xs) ys h k = (h.0, all_append P xs ys h.1 k)
 pub never_again_in : (gate : GateRecord) (steps : List Step) (one : AskedRecord) → IsSeen gate one.client one.moment → AllByRecursion (λ y. is_same one y ≡ false) (opened_in gate steps)
 never_again_in gate [] one seen = tt
 never_again_in gate (Answers client answer ∷ steps) one seen = never_again_in (gate_step gate (Answers client answer)) steps one seen
+never_again_in gate (Takes ∷ steps) one seen = never_again_in (gate_step gate Takes) steps one seen
 never_again_in gate (Comes now address bytes ∷ steps) one seen =
     all_append (λ y. is_same one y ≡ false) (opening_of address (opened gate now bytes)) (opened_in (gate_step gate (Comes now address bytes)) steps)
     (from (opened gate now bytes) refl)
@@ -153,12 +156,14 @@ pub once_law : (gate : GateRecord) (steps : List Step) → IsDistinct is_same (o
 unfolding IsDistinct
 once_law gate [] = tt
 once_law gate (Answers client answer ∷ steps) = once_law (gate_step gate (Answers client answer)) steps
-once_law gate (Comes now address bytes ∷ steps) = from (opened gate now bytes) (once_law (gate_with gate now address (opened gate now bytes)) steps)
+once_law gate (Takes ∷ steps) = once_law (gate_step gate Takes) steps
+once_law gate (Comes now address bytes ∷ steps) = from (opened gate now bytes) (once_law (gate_came gate now address bytes) steps)
   where
-    from : (o : Option SealedLine) → IsDistinct is_same (opened_in (gate_with gate now address o) steps)
-        → IsDistinct is_same (opening_of address o ++ opened_in (gate_with gate now address o) steps)
+    from : (o : Option SealedLine) → IsDistinct is_same (opened_in (gate_aside (gate_with gate now address o) (requested gate now address bytes)) steps)
+        → IsDistinct is_same (opening_of address o ++ opened_in (gate_aside (gate_with gate now address o) (requested gate now address bytes)) steps)
     from None rest = rest
-    from (Some line) rest = (never_again_in (gate_with gate now address (Some line)) steps (asked_of address line) (seen_now gate now address line), rest)
+    from (Some line) rest =
+        (never_again_in (gate_aside (gate_with gate now address (Some line)) (requested gate now address bytes)) steps (asked_of address line) (seen_now gate now address line), rest)
 
 -- ---- what is remembered was opened
 
@@ -225,6 +230,7 @@ AreAmong xs ys = (a : AskedRecord) → IsAmong xs a → IsAmong ys a
 among_step : (gate : GateRecord) (step : Step) (before : List AskedRecord) → AreAmong gate.asked before → AreAmong (gate_step gate step).asked (before ++ opened_by gate step)
 among_step gate (Answers client answer) before h = λ a is.
     subst (λ (l : List AskedRecord). IsAmong l a) (sym (append-nil before)) (h a (among_without (answered_place gate client answer) gate.asked a is))
+among_step gate Takes before h = λ a is. subst (λ (l : List AskedRecord). IsAmong l a) (sym (append-nil before)) (h a is)
 among_step gate (Comes now address bytes) before h = from (opened gate now bytes)
   where
     from : (o : Option SealedLine) → AreAmong (gate_with gate now address o).asked (before ++ opening_of address o)

@@ -13,9 +13,12 @@ use Rattle.replay_window.specs.Window.{WindowRecord, with_moment as with_moment_
 use Rattle.sealed_wire.specs.Body.{head_at}
 use Rattle.sealed_port.specs.Failures.{FailuresRecord, is_failure}
 use Rattle.sealed_port.specs.Gate.{GateRecord, SealedLine, failures_told, gate_answered, gate_with, with_moment}
+use Rattle.sealed_port.specs.Aside.{AsideRecord}
+use Rattle.sealed_port.specs.Requests.{gate_aside, operator_with, operators_with}
 use Rattle.sealed_port.specs.Port.{Opens, PassesOver, Receives, event_of_passed, gate_offered, handed_in}
 use Rattle.sealed_port.specs.Setup.{AreHeard, IsHandedFor, IsHeard, gate_setup, keyed_of, sealed_setup}
 use Rattle.sealed_port.specs.declared.client.Client.{Client}
+use Rattle.sealed_port.specs.declared.operator.Operator.{Operator}
 use Rattle.sealed_port.specs.declared.cause.Unopened.{Unopened}
 use Rattle.sealed_port.proofs.PortLemmas.{all_and_one}
 
@@ -48,24 +51,43 @@ told_stays : (now : Option ℕ) (failures : FailuresRecord) → (failures_told n
 told_stays None failures = refl
 told_stays (Some now) failures = either (λ (f : FailuresRecord). f.most) _ failures _ failures.most refl refl
 
-abbrev setup_with : ℕ → List Keyed → List ℕ → Option ℕ → GateSetup
-setup_with node clients plain most = record { node = node; clients = clients; plain = plain; most = most }
+abbrev setup_with : ℕ → List Keyed → List Keyed → List ℕ → Option ℕ → GateSetup
+setup_with node clients operators plain most = record { node = node; clients = clients; operators = operators; plain = plain; most = most }
 
-setup_is : (node : ℕ) (plain : List ℕ) {clients same : List Keyed} {most limit : Option ℕ} → clients ≡ same → most ≡ limit
-    → setup_with node clients plain most ≡ setup_with node same plain limit
-setup_is node plain {clients} {same} {most} {limit} h k =
-    ap (λ (all : List Keyed). setup_with node all plain most) h ∙ ap (setup_with node same plain) k
+setup_is : (node : ℕ) (operators : List Keyed) (plain : List ℕ) {clients same : List Keyed} {most limit : Option ℕ} → clients ≡ same → most ≡ limit
+    → setup_with node clients operators plain most ≡ setup_with node same operators plain limit
+setup_is node operators plain {clients} {same} {most} {limit} h k =
+    ap (λ (all : List Keyed). setup_with node all operators plain most) h ∙ ap (setup_with node same operators plain) k
+
+-- the operators of a gate without their rights and their admitted moments
+abbrev holders : List Operator → List Keyed
+holders operators = map (λ operator. keyed_of operator.holder) operators
 
 -- a line, opened or not, leaves the setup
 pub line_stays : (gate : GateRecord) (now : Option ℕ) (address : ℕ) (line : Option SealedLine) → gate_setup (gate_with gate now address line) ≡ gate_setup gate
 line_stays gate now address None = refl
 line_stays gate now address (Some line) =
-    setup_is gate.node gate.plain (clients_stay line.client line.moment gate.clients) (told_stays now gate.failures)
+    setup_is gate.node (holders gate.operators) gate.plain (clients_stay line.client line.moment gate.clients) (told_stays now gate.failures)
+
+holders_stay : (number moment : ℕ) (operators : List Operator) → holders (map (operator_with number moment) operators) ≡ holders operators
+holders_stay number moment [] = refl
+holders_stay number moment (operator ∷ operators) =
+    ap (λ (one : Keyed). one ∷ holders (map (operator_with number moment) operators)) (one_stays number moment operator.holder)
+    ∙ ap (λ (all : List Keyed). keyed_of operator.holder ∷ all) (holders_stay number moment operators)
+
+asked_stays : (request : Option AsideRecord) (operators : List Operator) → holders (operators_with request operators) ≡ holders operators
+asked_stays None operators = refl
+asked_stays (Some request) operators = holders_stay request.number request.moment operators
+
+-- a request, set aside or not, leaves the setup
+pub aside_stays : (gate : GateRecord) (request : Option AsideRecord) → gate_setup (gate_aside gate request) ≡ gate_setup gate
+aside_stays gate request =
+    ap (λ (all : List Keyed). setup_with gate.node (map keyed_of gate.clients) all gate.plain gate.failures.most) (asked_stays request gate.operators)
 
 -- an answer leaves the setup
 pub answer_stays : (gate : GateRecord) (client : ℕ) (answer : List ℕ) → gate_setup (gate_answered gate client answer) ≡ gate_setup gate
 answer_stays gate client answer =
-    ap (setup_with gate.node (map keyed_of gate.clients) gate.plain) (either (λ (f : FailuresRecord). f.most) (is_failure answer) _ gate.failures gate.failures.most refl refl)
+    ap (setup_with gate.node (map keyed_of gate.clients) (holders gate.operators) gate.plain) (either (λ (f : FailuresRecord). f.most) (is_failure answer) _ gate.failures gate.failures.most refl refl)
 
 -- an offer leaves the setup
 pub offer_stays : (gate : GateRecord) (to : Sender) (bytes : List ℕ) → gate_setup (gate_offered gate to bytes) ≡ gate_setup gate

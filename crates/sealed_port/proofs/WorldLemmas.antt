@@ -14,8 +14,9 @@ use Rattle.sealed_wire.proofs.MakingLemmas.{answer_law, made_law}
 use Rattle.replay_window.specs.Window.{with_seen}
 use Rattle.sealed_port.specs.Asked.{AskedRecord, nonce_in}
 use Rattle.sealed_port.specs.Gate.{GateRecord, Sealed, SealedLine, answer_head, answered, asked_of, gate_with, named, opened, with_moment}
-use Rattle.sealed_port.specs.Runs.{Answers, Comes, IsAmong, Step, gate_run, gate_step, line_head, opened_in, opening_of}
+use Rattle.sealed_port.specs.Runs.{Answers, Comes, Takes, IsAmong, Step, gate_run, gate_step, line_head, opened_in, opening_of}
 use Rattle.sealed_port.specs.World.{ComeUnforged, GatesAnswer, HasKey, IsAnswered, WasSealed}
+use Rattle.sealed_port.specs.Requests.{gate_came}
 use Rattle.sealed_port.specs.declared.client.Client.{Client}
 use Rattle.sealed_port.proofs.OpenLemmas.{opened_law}
 use Rattle.sealed_port.proofs.RunLemmas.{among_parts, among_run, named_stays, remembered_is, sealed_for}
@@ -28,7 +29,7 @@ some_is x y e = cc
 
 -- ---- a client's key stays
 
-key_kept : (b : Bool) (client : Client) (moment : ℕ) → (cond b (record client { window = with_seen client.window moment }) client).key ≡ client.key
+pub key_kept : (b : Bool) (client : Client) (moment : ℕ) → (cond b (record client { window = with_seen client.window moment }) client).key ≡ client.key
 key_kept true client moment = refl
 key_kept false client moment = refl
 
@@ -44,6 +45,7 @@ key_with key client gate now address (Some line) h = λ owner e. from (named cli
 key_step : (key : List ℕ) (client : ℕ) (gate : GateRecord) (step : Step) → HasKey key client gate → HasKey key client (gate_step gate step)
 key_step key client gate (Comes now address bytes) h = key_with key client gate now address (opened gate now bytes) h
 key_step key client gate (Answers other answer) h = h
+key_step key client gate Takes h = h
 
 key_run : (key : List ℕ) (client : ℕ) (gate : GateRecord) (steps : List Step) → HasKey key client gate → HasKey key client (gate_run gate steps)
 key_run key client gate [] h = h
@@ -51,13 +53,14 @@ key_run key client gate (step ∷ steps) h = key_run key client (gate_step gate 
 
 -- ---- a gate's node stays
 
-node_with : (gate : GateRecord) (now : Option ℕ) (address : ℕ) (found : Option SealedLine) → (gate_with gate now address found).node ≡ gate.node
+pub node_with : (gate : GateRecord) (now : Option ℕ) (address : ℕ) (found : Option SealedLine) → (gate_with gate now address found).node ≡ gate.node
 node_with gate now address None = refl
 node_with gate now address (Some line) = refl
 
 node_run : (gate : GateRecord) (steps : List Step) → (gate_run gate steps).node ≡ gate.node
 node_run gate [] = refl
-node_run gate (Comes now address bytes ∷ steps) = node_run (gate_with gate now address (opened gate now bytes)) steps ∙ node_with gate now address (opened gate now bytes)
+node_run gate (Comes now address bytes ∷ steps) = node_run (gate_came gate now address bytes) steps ∙ node_with gate now address (opened gate now bytes)
+node_run gate (Takes ∷ steps) = node_run (gate_step gate Takes) steps
 node_run gate (Answers client answer ∷ steps) = node_run (gate_step gate (Answers client answer)) steps
 
 -- ---- a line that was opened was made
@@ -73,7 +76,7 @@ record LineMade (key : List ℕ) (made : List Making) (node : ℕ) (line : Asked
   moment_is : making.head.moment ≡ line.moment
 
 -- the tag of what is read
-tag_of_read : (key bytes text : List ℕ) (head : Head) → AreBytes bytes → sealed_at key [] bytes ≡ Some (head, text)
+pub tag_of_read : (key bytes text : List ℕ) (head : Head) → AreBytes bytes → sealed_at key [] bytes ≡ Some (head, text)
     → tag_at bytes ≡ making_tag key (record { bound = []; head = head; text = text })
 tag_of_read key bytes text head fits read =
     let o = takes key [] bytes head text read in
@@ -105,8 +108,10 @@ opened_is_made : (key : List ℕ) (made : List Making) (client : ℕ) (gate : Ga
 opened_is_made key made client gate [] line makings has come among of_client = absurd among
 opened_is_made key made client gate (Answers other answer ∷ steps) line makings has come among of_client =
     opened_is_made key made client (gate_step gate (Answers other answer)) steps line makings has come among of_client
+opened_is_made key made client gate (Takes ∷ steps) line makings has come among of_client =
+    opened_is_made key made client (gate_step gate Takes) steps line makings has come among of_client
 opened_is_made key made client gate (Comes now address bytes ∷ steps) line makings has come among of_client =
-    from (opened gate now bytes) refl (λ later. opened_is_made key made client (gate_with gate now address (opened gate now bytes)) steps line makings
+    from (opened gate now bytes) refl (λ later. opened_is_made key made client (gate_came gate now address bytes) steps line makings
     (key_with key client gate now address (opened gate now bytes) has) come.2 later of_client)
     among
   where
@@ -123,9 +128,9 @@ opened_is_made key made client gate (Comes now address bytes ∷ steps) line mak
     here (Some found) is h = first found is h
 
     from : (o : Option SealedLine) → opened gate now bytes ≡ o
-        → (IsAmong (opened_in (gate_with gate now address (opened gate now bytes)) steps) line → LineMade key made (gate_with gate now address (opened gate now bytes)).node line)
-        → IsAmong (opening_of address (opened gate now bytes) ++ opened_in (gate_with gate now address (opened gate now bytes)) steps) line → LineMade key made gate.node line
-    from o is rest all = elim (among_parts (opening_of address (opened gate now bytes)) (opened_in (gate_with gate now address (opened gate now bytes)) steps) line all) as (λ k. LineMade key made gate.node line) [
+        → (IsAmong (opened_in (gate_came gate now address bytes) steps) line → LineMade key made (gate_came gate now address bytes).node line)
+        → IsAmong (opening_of address (opened gate now bytes) ++ opened_in (gate_came gate now address bytes) steps) line → LineMade key made gate.node line
+    from o is rest all = elim (among_parts (opening_of address (opened gate now bytes)) (opened_in (gate_came gate now address bytes) steps) line all) as (λ k. LineMade key made gate.node line) [
       | inl front ↦ here o is (subst (λ (x : Option SealedLine). IsAmong (opening_of address x) line) is front)
       | inr back ↦ node_stays (opened gate now bytes) (rest back)
     ]

@@ -56,6 +56,8 @@ gate_at window asked = record {
   plain = 2130706433 ∷ [];
   asked = asked;
   failures = no_limit;
+  operators = [];
+  aside = [];
 }
 
 -- the gate before it opened anything

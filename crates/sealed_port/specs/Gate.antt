@@ -13,16 +13,21 @@ use Rattle.sealed_port.specs.declared.cause.Cause.{Cause}
 use Rattle.sealed_port.specs.declared.cause.Cause.TheVariants.{Form, Tag, Early, Limited}
 use Rattle.sealed_port.specs.Failures.{FailuresRecord, failures_after, failures_at, is_limited}
 use Rattle.sealed_port.specs.Asked.{AskedRecord, clashes, line_at, nonce_in, nonce_of, place_of, remembered, without}
+use Rattle.sealed_port.specs.Aside.{AsideRecord}
 use Rattle.sealed_port.specs.declared.client.Client.{Client}
+use Rattle.sealed_port.specs.declared.operator.Operator.{Operator}
 
--- A gate: its node, the clients that share a key with it, the plain IPv4 addresses, the lines without an answer, and
--- the failures of clients. Clients at a plain address may speak plainly.
+-- A gate: its node, the clients that share a key with it, the plain IPv4 addresses, the lines without an answer, the
+-- failures of clients, the operators, and their requests that were not taken. Clients at a plain address may speak
+-- plainly.
 pub record GateRecord : Type 0 where
   pub node : ℕ
   pub clients : List Client
   pub plain : List ℕ
   pub asked : List AskedRecord
   pub failures : FailuresRecord
+  pub operators : List Operator
+  pub aside : List AsideRecord
 
 -- a client's line with the values of its seal
 pub record SealedLine : Type 0 where

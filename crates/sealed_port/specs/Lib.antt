@@ -1,9 +1,14 @@
+pub mod Aside
 pub mod Asked
 pub mod Causes
-pub mod Failures
 pub mod Examples
+pub mod Failures
 pub mod Gate
 pub mod Port
+pub mod ReportWorld
+pub mod RequestExamples
+pub mod RequestRuns
+pub mod Requests
 pub mod Runs
 pub mod Setup
 pub mod World

@@ -6,8 +6,10 @@ use Rattle.datagram_port.specs.declared.port.Received.{Received as Receive}
 use Rattle.datagram_port.specs.declared.port.Received.TheVariants.{Datagram, Quiet as QuietReceive, Fault}
 use Rattle.datagram_port.specs.declared.port.Sender.{Sender}
 use Rattle.datagram_port.specs.declared.port.Sender.TheVariants.{Client, Peer}
+use Rattle.sealed_port.specs.Aside.{AsideRecord}
 use Rattle.sealed_port.specs.Causes.{counted}
-use Rattle.sealed_port.specs.Gate.{GateRecord, Sealed, SealedLine, answered, cause_of, gate_answered, gate_with, is_plain, opened}
+use Rattle.sealed_port.specs.Gate.{GateRecord, Sealed, SealedLine, answered, gate_answered, is_plain, opened}
+use Rattle.sealed_port.specs.Requests.{asks, cause_came, gate_came, requested}
 use Rattle.sealed_port.specs.declared.cause.Unopened.{Unopened}
 
 -- the number of a client at the node
@@ -19,10 +21,25 @@ abbrev pub handed_line : Option SealedLine → Option PortEvent
 handed_line None = None
 handed_line (Some line) = Some (Received (Client (node_number line.client)) line.line)
 
+-- the event in place of a request that was set aside, or None: an empty datagram of member 0, which no cluster has
+abbrev pub handed_request : Option AsideRecord → Option PortEvent
+handed_request None = None
+handed_request (Some request) = Some (Received (Peer 0) [])
+
+-- the event for a datagram of a client or an operator
+abbrev pub handed_sealed : GateRecord → Option ℕ → ℕ → List ℕ → Option PortEvent
+handed_sealed gate now address bytes =
+    if asks bytes then handed_request (requested gate now address bytes) else handed_line (opened gate now bytes)
+
+-- the result of a receive in place of a request that was set aside, or None
+abbrev pub stand_in : Option AsideRecord → Option Receive
+stand_in None = None
+stand_in (Some request) = Some (Datagram (Peer 0) 0)
+
 -- the event for a client's datagram
 abbrev pub handed_client : GateRecord → Option ℕ → ℕ → List ℕ → Option PortEvent
 handed_client gate now address bytes =
-    if is_plain gate address then Some (Received (Client address) bytes) else handed_line (opened gate now bytes)
+    if is_plain gate address then Some (Received (Client address) bytes) else handed_sealed gate now address bytes
 
 -- The event that a gate hands in for an event of the port below, with what the clock told. None: the gate passes over
 -- it. That is so exactly for a datagram that it doesn't open, of a client that must not speak plainly.
@@ -36,7 +53,7 @@ handed_in gate now (Offered to bytes) = Some (Offered to bytes)
 -- the gate after an event of the port below
 abbrev pub gate_after : GateRecord → Option ℕ → PortEvent → GateRecord
 gate_after gate now (Received (Client address) bytes) =
-    if is_plain gate address then gate else gate_with gate now address (opened gate now bytes)
+    if is_plain gate address then gate else gate_came gate now address bytes
 gate_after gate now (Received (Peer number) bytes) = gate
 gate_after gate now Quiet = gate
 gate_after gate now Faulted = gate
@@ -53,7 +70,7 @@ told_for gate now (Offered to bytes) = []
 -- the numbers of unopened datagrams after an event; a datagram that the gate opens has no cause
 abbrev pub counted_after : GateRecord → Unopened → Option ℕ → PortEvent → Unopened
 counted_after gate unopened now (Received (Client address) bytes) =
-    if is_plain gate address then unopened else counted unopened (cause_of gate now bytes)
+    if is_plain gate address then unopened else counted unopened (cause_came gate now address bytes)
 counted_after gate unopened now (Received (Peer number) bytes) = unopened
 counted_after gate unopened now Quiet = unopened
 counted_after gate unopened now Faulted = unopened
@@ -107,7 +124,7 @@ ArePassedOver gate passed = AllByRecursion (λ one. handed_in gate one.now (even
 abbrev pub counted_over : GateRecord → Unopened → List Passed → Unopened
 counted_over gate unopened [] = unopened
 counted_over gate unopened (one ∷ passed) =
-    counted_over gate (counted unopened (cause_of gate one.now one.bytes)) passed
+    counted_over gate (counted unopened (cause_came gate one.now one.address one.bytes)) passed
 
 -- A gate's handling of one event of the port below. It asks the clock as `told_for` says, hands in what `handed_in`
 -- says, and is then the gate of `gate_after`. It counts a datagram that it passes over.

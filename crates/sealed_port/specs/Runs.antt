@@ -7,18 +7,22 @@ use Rattle.sealed_wire.specs.declared.head.Head.{Head}
 use Rattle.sealed_wire.specs.declared.head.Kind.TheVariants.{Line}
 use Rattle.sealed_port.specs.Asked.{AskedRecord, nonce_of}
 use Rattle.sealed_port.specs.Failures.{is_limited}
-use Rattle.sealed_port.specs.Gate.{GateRecord, Sealed, SealedLine, answer_head, asked_of, gate_answered, gate_with, is_admitted, named, opened}
+use Rattle.sealed_port.specs.Gate.{GateRecord, Sealed, SealedLine, answer_head, asked_of, gate_answered, is_admitted, named, opened}
+use Rattle.sealed_port.specs.Requests.{gate_came, gate_taken}
 use Rattle.sealed_port.specs.declared.client.Client.{Client}
 
--- A step of a gate: a datagram comes from an address at a second of the clock, or the node answers a client.
+-- A step of a gate: a datagram comes from an address at a second of the clock, the node answers a client, or the oldest
+-- request is taken.
 pub data Step : Type 0 where
   Comes : (now : Option ℕ) (address : ℕ) (bytes : List ℕ) → Step
   Answers : (client : ℕ) (answer : List ℕ) → Step
+  Takes : Step
 
 -- the gate after a step
 abbrev pub gate_step : GateRecord → Step → GateRecord
-gate_step gate (Comes now address bytes) = gate_with gate now address (opened gate now bytes)
+gate_step gate (Comes now address bytes) = gate_came gate now address bytes
 gate_step gate (Answers client answer) = gate_answered gate client answer
+gate_step gate Takes = gate_taken gate
 
 -- the gate after the steps, in order
 abbrev pub gate_run : GateRecord → List Step → GateRecord
@@ -34,6 +38,7 @@ opening_of address (Some line) = asked_of address line ∷ []
 abbrev pub opened_by : GateRecord → Step → List AskedRecord
 opened_by gate (Comes now address bytes) = opening_of address (opened gate now bytes)
 opened_by gate (Answers client answer) = []
+opened_by gate Takes = []
 
 -- the lines that the steps open, in order
 abbrev pub opened_in : GateRecord → List Step → List AskedRecord
@@ -55,6 +60,7 @@ abbrev pub WasTold : ℕ → List Step → Type 0
 WasTold second [] = ⊥
 WasTold second (Comes now address bytes ∷ steps) = (now ≡ Some second) ⊎ WasTold second steps
 WasTold second (Answers client answer ∷ steps) = WasTold second steps
+WasTold second (Takes ∷ steps) = WasTold second steps
 
 -- An incarnation of a gate is before a later one. For each client of both, the later window's first mark is at or above
 -- every moment that the earlier window could admit.

@@ -12,11 +12,13 @@ use Rattle.sealed_port.specs.declared.client.Client.{Client}
 abbrev pub keyed_of : Client → Keyed
 keyed_of client = record { number = client.number; key = client.key; ahead = client.window.ahead }
 
--- what stays of a gate: all but the admitted moments, the lines without an answer, and the failures so far
+-- what stays of a gate: all but the admitted moments, the lines without an answer, the failures so far, the rights of
+-- operators and their requests
 abbrev pub gate_setup : GateRecord → GateSetup
 gate_setup gate = record {
   node = gate.node;
   clients = map keyed_of gate.clients;
+  operators = map (λ operator. keyed_of operator.holder) gate.operators;
   plain = gate.plain;
   most = gate.failures.most;
 }

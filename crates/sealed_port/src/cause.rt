@@ -6,15 +6,17 @@ ghost use Rattle.sealed_port.specs.Causes.{counted, nothing};
 /// The reason why a gate doesn't open a datagram.
 #[derive(Clone, Copy, Debug, PartialEq, Eq)]
 pub enum Cause {
-    /// The datagram is no sealed line for the gate's node from a client that the gate knows.
+    /// The datagram is no sealed line for the gate's node from a client that the gate knows, and no such request of an
+    /// operator.
     Form,
-    /// The tag is wrong under the key of the client that the datagram names.
+    /// The tag is wrong under the key of the client or operator that the datagram names.
     Tag,
     /// The moment is too far ahead of the clock, or the clock fails.
     Early,
     /// The moment is too far behind the clock, or the clock tells no second below 2^40.
     Late,
-    /// The moment was seen or is at or below the mark, or another line with the same nonce waits for its answer.
+    /// The moment was seen or is at or below the mark, or another line with the same nonce waits for its answer. For a
+    /// request: the moment is so, or 8 requests wait to be taken.
     Again,
     /// The client has as many failures in the clock's minute as it may have.
     Limited,
@@ -23,15 +25,16 @@ pub enum Cause {
 /// The numbers of datagrams that a gate didn't open, by their causes. None goes beyond `u64::MAX`.
 #[derive(Clone, Copy, Debug, PartialEq, Eq)]
 pub struct Unopened {
-    /// The number of datagrams that are no sealed line for the node from a known client.
+    /// The number of datagrams that are no sealed line or request for the node from a known client or operator.
     pub form: u64,
     /// The number of datagrams with a wrong tag.
     pub tag: u64,
-    /// The number of lines with a moment too far ahead of the clock.
+    /// The number of lines and requests with a moment too far ahead of the clock.
     pub early: u64,
-    /// The number of lines with a moment too far behind the clock.
+    /// The number of lines and requests with a moment too far behind the clock.
     pub late: u64,
-    /// The number of lines with a moment that was seen or is at or below the mark, or with the nonce of a waiting line.
+    /// The number of lines and requests with a moment that was seen or is at or below the mark. It also counts lines
+    /// with the nonce of a waiting line, and requests for which there was no room.
     pub again: u64,
     /// The number of lines of clients with as many failures in the clock's minute as they may have.
     pub limited: u64,

@@ -7,10 +7,12 @@ ghost use Rattle.std.specs.Result.{result_err, result_map_both, result_ok};
 ghost use Rattle.sealed_wire.specs.Sealed.{head_of, tag_at};
 ghost use Rattle.sealed_port.specs.Gate.{admits, answer_to, answered, cause_at, cause_of, gate_answered, gate_with, is_admitted, is_line, is_plain, keeper_of, named, opened, ruling, sealed_line, with_moment};
 
+use crate::aside::Aside;
 use crate::asked::{Asked, AskedLines};
 use crate::cause::Cause;
 use crate::client::Client;
 use crate::failures::Failures;
+use crate::operator::Operator;
 use arrayvec::ArrayVec;
 use sealed_wire::{Head, Kind, MAX_SEALED_LEN, MAX_TEXT_LEN, TAG_LEN, head_of, open, seal};
 use std::marker::Model;
@@ -41,11 +43,13 @@ pub(crate) struct Sealed {
 /// A gate before a node.
 #[derive(Drop)]
 pub struct Gate {
-    node: u8,
+    pub(crate) node: u8,
     clients: Vec<Client>,
+    pub(crate) operators: Vec<Operator>,
     plain: Vec<u32>,
     asked: AskedLines,
     failures: Failures,
+    pub(crate) aside: Aside,
 }
 
 impl Model for Gate {
@@ -59,6 +63,8 @@ impl Model for Gate {
       plain = gate.plain.items;
       asked = gate.asked;
       failures = gate.failures;
+      operators = gate.operators.items;
+      aside = gate.aside;
     } };
 }
 
@@ -89,7 +95,7 @@ fn is_line(kind: Kind) -> bool
 }
 
 /// Returns the tag of a datagram: its last bytes.
-fn tag_at(bytes: &[u8]) -> [u8; TAG_LEN]
+pub(crate) fn tag_at(bytes: &[u8]) -> [u8; TAG_LEN]
     requires { 32 ≤ length bytes.now }
     ensures { result ≡ tag_at bytes.now }
 {
@@ -99,23 +105,33 @@ fn tag_at(bytes: &[u8]) -> [u8; TAG_LEN]
 }
 
 impl Gate {
-    /// Returns a gate before the node `node`. `clients` share keys with it, and clients at the IPv4 addresses `plain`
-    /// may speak plainly. `failures` says how often a client may fail in a minute.
-    pub fn new(node: u8, clients: Vec<Client>, plain: Vec<u32>, failures: Failures) -> Self
+    /// Returns a gate before the node `node`. `clients` and `operators` share keys with it, and clients at the IPv4
+    /// addresses `plain` may speak plainly. `failures` says how often a client may fail in a minute.
+    pub fn new(
+        node: u8,
+        clients: Vec<Client>,
+        operators: Vec<Operator>,
+        plain: Vec<u32>,
+        failures: Failures,
+    ) -> Self
         ensures { result ≡ record {
           node = node;
           clients = clients.items;
           plain = plain.items;
           asked = [];
           failures = failures;
+          operators = operators.items;
+          aside = [];
         } }
     {
         Gate {
             node,
             clients,
+            operators,
             plain,
             asked: AskedLines::new(),
             failures,
+            aside: Aside::new(),
         }
     }
 

@@ -6,13 +6,16 @@ ghost use Rattle.datagram_port.specs.Port.{Grows, IsWithin, Offered, Received as
 ghost use Rattle.datagram_port.specs.declared.port.Received.TheVariants.{Quiet};
 ghost use Rattle.datagram_port.specs.declared.port.Sender.TheVariants.{Client};
 ghost use Rattle.sealed_port.specs.Causes.{counted, nothing};
-ghost use Rattle.sealed_port.specs.Gate.{cause_of, gate_with, opened};
+ghost use Rattle.sealed_port.specs.Aside.{oldest};
+ghost use Rattle.sealed_port.specs.Requests.{cause_came, gate_aside, gate_came, gate_taken, reported, request_cause, requested};
 ghost use Rattle.sealed_port.specs.Setup.{AreHeard, gate_setup, sealed_setup};
-ghost use Rattle.sealed_port.specs.Port.{Polls, Receives, TakesIn, gate_offered, handed_line, node_number, offered, sealed_from};
+ghost use Rattle.sealed_port.specs.Port.{Polls, Receives, TakesIn, gate_offered, handed_sealed, node_number, offer_of, offered, sealed_from, stand_in};
 
+use crate::aside::SetAside;
 use crate::cause::Unopened;
 use crate::gate::{Gate, SealedLine};
 use crate::record::Record;
+use crate::requests::asks;
 use datagram_port::{Clock, Port, Received, Sender};
 
 /// The first number that the node uses for clients that share keys with it.
@@ -25,13 +28,14 @@ const MAX_PASSED_OVER: u64 = u64::MAX;
 const MAX_POLLED_OVER: u8 = 64;
 
 /// A node's port over another one, with a gate between them. It keeps a record of the events that it handed in and of
-/// the node's offers. Each datagram of the record was handed in by the gate.
+/// the node's offers. Each datagram of the record was handed in by the gate. The requests of operators wait in it.
 #[derive(Drop)]
 pub struct SealedPort<P: Port + Drop, C: Clock + Drop> {
     /// The port below. Tests read what it was offered.
     pub(crate) port: P,
     clock: C,
-    gate: Gate,
+    /// Tests set requests aside.
+    pub(crate) gate: Gate,
     unopened: Unopened,
     calls: Record,
     ghost heard: { ∥ IfSome (P.events port) (λ below. AreHeard (gate_setup gate) below calls.events) ∥₁ },
@@ -99,9 +103,63 @@ impl<P: Port + Drop, C: Clock + Drop> SealedPort<P, C> {
         unopened
     }
 
-    /// Opens a datagram from a client that must not speak plainly. Returns the result of the receive, or None if the
-    /// gate doesn't open it.
-    #[tactic(auto, using(crate::proofs::SetupLemmas::line_stays))]
+    /// Sets aside the request in a datagram. Returns an empty datagram of member 0, or None if the gate doesn't open
+    /// the request.
+    #[tactic(auto, using(crate::proofs::CameLemmas::stands_in, crate::proofs::CameLemmas::stands_not_in))]
+    fn set_aside(&mut self, now: Option<u64>, address: u64, bytes: &[u8]) -> Option<Received>
+        ensures handed { result ≡ stand_in (requested self.old.gate now address bytes.now) }
+        ensures gate { self.new.gate
+            ≡ gate_aside self.old.gate (requested self.old.gate now address bytes.now) }
+        ensures counts { self.new.unopened
+            ≡ counted self.old.unopened (request_cause self.old.gate now address bytes.now) }
+        ensures same { (self.new.port ≡ self.old.port) × (self.new.clock ≡ self.old.clock)
+            × (self.new.calls ≡ self.old.calls) }
+    {
+        match self.gate.set_aside(now, address, bytes) {
+            None => Some(Received::Datagram {
+                sender: Sender::Peer(0),
+                len: 0,
+            }),
+            Some(why) => {
+                self.unopened.count(why);
+                None
+            }
+        }
+    }
+
+    /// Removes and returns the oldest request that was set aside, or returns None if there is none.
+    pub fn take_request(&mut self) -> Option<SetAside>
+        ensures request { result ≡ oldest self.old.gate.aside }
+        ensures gate { self.new.gate ≡ gate_taken self.old.gate }
+        ensures same { (self.new.port ≡ self.old.port) × (self.new.clock ≡ self.old.clock)
+            × (self.new.unopened ≡ self.old.unopened) × (self.new.calls ≡ self.old.calls) }
+        ensures stays { gate_setup self.new.gate ≡ gate_setup self.old.gate }
+    {
+        self.gate.take_request()
+    }
+
+    /// Seals a page as the report on a request, and offers it to the port below for the request's address. Returns
+    /// whether that port took it.
+    ///
+    /// Returns false if the page has more than 1,024 bytes.
+    pub fn report(&mut self, request: &SetAside, page: &[u8]) -> bool
+        ensures offers { Grows (P.events self.old.port) (P.events self.new.port)
+            (offer_of (reported self.old.gate request.now page.now)) }
+        ensures same { (self.new.gate ≡ self.old.gate) × (self.new.clock ≡ self.old.clock)
+            × (self.new.unopened ≡ self.old.unopened) × (self.new.calls ≡ self.old.calls) }
+        ensures stays { P.setup self.new.port ≡ P.setup self.old.port }
+    {
+        match self.gate.report(request, page) {
+            Some(report) => self
+                .port
+                .send(Sender::Client(report.address), &report.bytes),
+            None => false,
+        }
+    }
+
+    /// Opens a datagram from a client that must not speak plainly, or from an operator. Returns the result of the
+    /// receive, or None if the gate doesn't open it.
+    #[tactic(auto, using(crate::proofs::SetupLemmas::line_stays, crate::proofs::SetupLemmas::aside_stays))]
     fn open(&mut self, address: u64, len: usize, buffer: &mut [u8; 512]) -> Option<Received>
         requires { len ≤ 512 }
         ensures within { IfSome result IsWithin }
@@ -109,14 +167,17 @@ impl<P: Port + Drop, C: Clock + Drop> SealedPort<P, C> {
         ensures same { (self.new.port ≡ self.old.port) × (self.new.calls ≡ self.old.calls) }
         ensures takes { (now : Option ℕ) × Grows (C.moments self.old.clock) (C.moments self.new.clock) (now ∷ [])
             × (option_map (λ received. event_of_receive received buffer.new) result
-            ≡ handed_line (opened self.old.gate now (take len buffer.old)))
-            × (self.new.gate ≡ gate_with self.old.gate now address (opened self.old.gate now (take len buffer.old)))
+            ≡ handed_sealed self.old.gate now address (take len buffer.old))
+            × (self.new.gate ≡ gate_came self.old.gate now address (take len buffer.old))
             × (self.new.unopened
-            ≡ counted self.old.unopened (cause_of self.old.gate now (take len buffer.old))) }
+            ≡ counted self.old.unopened (cause_came self.old.gate now address (take len buffer.old))) }
         ensures stays { gate_setup self.new.gate ≡ gate_setup self.old.gate }
     {
         let now = self.clock.moment();
         let datagram = *buffer;
+        if asks(&datagram[..len]) {
+            return self.set_aside(now, address, &datagram[..len]);
+        }
         match self.gate.open(now, address, &datagram[..len]) {
             Ok(line) => Some(hand_in(line, buffer)),
             Err(cause) => {

@@ -1,9 +1,10 @@
 //! A gate over ports in memory.
 
-use crate::{Client, Failures, Gate, SealedPort, Unopened};
+use crate::{Cause, Client, Failures, Gate, Operator, SealedPort, Unopened};
+use arrayvec::ArrayVec;
 use datagram_port::{Coming, ListClock, ListPort, Port, PortEntry, Received, Sender};
 use replay_window::Ahead;
-use sealed_wire::ClientKey;
+use sealed_wire::{ClientKey, Head, Kind, MAX_SEALED_LEN, Right, TAG_LEN, open_report, seal};
 use std::alloc::Global;
 use std::test::Fail;
 
@@ -31,7 +32,7 @@ fn gate(alloc: Global, most: Option<u64>) -> Result<Gate, Fail> {
     clients.push(Client::new(258, key, Ahead::default(), 0))?;
     let mut plain = Vec::new(alloc);
     plain.push(0x7f00_0001)?;
-    Ok(Gate::new(2, clients, plain, Failures::new(most)))
+    Ok(Gate::new(2, clients, Vec::new(alloc), plain, Failures::new(most)))
 }
 
 /// A client's datagram from an address.
@@ -235,5 +236,119 @@ fn sends_unsealed(rt: HostRuntime) -> Result<(), Fail> {
     assert!(rt; offers(&port.port, Sender::Peer(3), b"OV"));
     assert!(rt; port.send(Sender::Client(5), b"NO 1 BUSY"));
     assert!(rt; offers(&port.port, Sender::Client(5), b"NO 1 BUSY"));
+    Ok(())
+}
+
+/// Operator 258's request `STATUS` for node 2 at 100 seconds, under a key of 32 zeros, by Python's hmac.
+const REQUEST: [u8; 53] = [
+    0x4f, 0x53, 0x01, 0x03, 0x01, 0x02, 0x02, 0x00, 0x00, 0x00, 0x00, 0x05, 0xf5, 0xe1, 0x00, 0x53,
+    0x54, 0x41, 0x54, 0x55, 0x53, 0xcd, 0xcc, 0x6b, 0x84, 0xe6, 0xf6, 0xae, 0x1f, 0xf1, 0x7e, 0xdb,
+    0x14, 0xd3, 0x20, 0xc6, 0x18, 0xde, 0x22, 0x3d, 0x52, 0xc0, 0x76, 0x9f, 0x78, 0xf0, 0x77, 0x22,
+    0xa1, 0x1a, 0x3b, 0x8e, 0xf5,
+];
+
+/// The report on it: `node 2 of 3` and `end`, each with its LF.
+const REPORT: [u8; 63] = [
+    0x4f, 0x53, 0x01, 0x04, 0x01, 0x02, 0x02, 0x00, 0x00, 0x00, 0x00, 0x05, 0xf5, 0xe1, 0x00, 0x6e,
+    0x6f, 0x64, 0x65, 0x20, 0x32, 0x20, 0x6f, 0x66, 0x20, 0x33, 0x0a, 0x65, 0x6e, 0x64, 0x0a, 0x9d,
+    0x69, 0x88, 0x82, 0x55, 0x27, 0x81, 0x5e, 0xd2, 0x8d, 0x0a, 0x68, 0x83, 0x43, 0x7a, 0x54, 0x3a,
+    0xd4, 0x7e, 0x17, 0x4b, 0xd1, 0x21, 0xbb, 0x0c, 0xef, 0xbd, 0x6d, 0x70, 0x49, 0x5d, 0xa5,
+];
+
+/// The gate of node 2, with operator 258 and a process that began at 0.
+fn operators_gate(alloc: Global) -> Result<Gate, Fail> {
+    let key = ClientKey::new(&[0; 32]).ok_or("a key")?;
+    let holder = Client::new(258, key, Ahead::default(), 0);
+    let mut operators = Vec::new(alloc);
+    operators.push(Operator::new(holder, Right::Operator))?;
+    let (clients, plain) = (Vec::new(alloc), Vec::new(alloc));
+    Ok(Gate::new(2, clients, operators, plain, Failures::new(None)))
+}
+
+/// The port of an operator over `comings`, with a clock that tells `moments`.
+fn operators_port<'a>(
+    alloc: Global,
+    comings: &'a [Coming<'a>],
+    moments: &'a [u64],
+) -> Result<SealedPort<ListPort<'a>, ListClock<'a>>, Fail> {
+    Ok(SealedPort::new(
+        ListPort::new(alloc, comings),
+        ListClock::new(alloc, moments),
+        operators_gate(alloc)?,
+    ))
+}
+
+/// The datagram that the node is handed in place of a request.
+const STAND_IN: Received = Received::Datagram {
+    sender: Sender::Peer(0),
+    len: 0,
+};
+
+/// A receive ends with a request, which is taken once. A copy of it is passed over.
+#[test]
+fn sets_a_request_aside(rt: HostRuntime) -> Result<(), Fail> {
+    let comings = [from(9, b"CHECK"), from(7, &REQUEST), from(8, &REQUEST)];
+    let mut port = operators_port(rt.alloc(), &comings, &[100, 100, 100])?;
+    assert!(rt; port.receive(&mut [0; 512]) == STAND_IN);
+    assert!(rt; port.poll(&mut [0; 512]).is_none());
+    assert!(rt; are(port.take_unopened(), [1, 0, 0, 0, 1, 0]));
+    let request = port.take_request().ok_or("a request")?;
+    assert!(rt; request.number() == 258 && request.right() == Right::Operator);
+    assert!(rt; request.text() == b"STATUS".as_slice());
+    assert!(rt; port.take_request().is_none());
+    Ok(())
+}
+
+/// A poll hands in the stand-in of a request, and the report on it goes to its address.
+#[test]
+fn reports_on_a_request(rt: HostRuntime) -> Result<(), Fail> {
+    let comings = [from(7, &REQUEST)];
+    let mut port = operators_port(rt.alloc(), &comings, &[100])?;
+    assert!(rt; port.poll(&mut [0; 512]) == Some(STAND_IN));
+    let request = port.take_request().ok_or("a request")?;
+    assert!(rt; !port.report(&request, &[b'\n'; 1025]));
+    assert!(rt; port.report(&request, b"node 2 of 3\nend\n"));
+    assert!(rt; offers(&port.port, Sender::Client(7), &REPORT));
+    assert!(rt; port.report(&request, &[b'\n'; 1024]));
+    Ok(())
+}
+
+/// The operator reads the report with its request's tag, and with no other.
+#[test]
+fn reads_its_report(rt: HostRuntime) -> Result<(), Fail> {
+    let key = ClientKey::new(&[0; 32]).ok_or("a key")?;
+    let mut tag = [0; TAG_LEN];
+    tag.copy_from_slice(&REQUEST[21..]);
+    let (_, text) = open_report(&key, &tag, &REPORT).ok_or("a report")?;
+    assert!(rt; text == b"node 2 of 3\nend\n".as_slice());
+    assert!(rt; open_report(&key, &[0; TAG_LEN], &REPORT).is_none());
+    Ok(())
+}
+
+/// The request of operator 258 at a moment in microseconds.
+fn request_at(moment: u64) -> Result<ArrayVec<u8, MAX_SEALED_LEN>, Fail> {
+    let key = ClientKey::new(&[0; 32]).ok_or("a key")?;
+    let head = Head {
+        kind: Kind::Request,
+        client: 258,
+        node: 2,
+        moment,
+    };
+    Ok(seal(&key, &[], head, b"STATUS"))
+}
+
+/// A ninth request is passed over while 8 wait. It is set aside once one was taken.
+#[test]
+fn keeps_eight_requests(rt: HostRuntime) -> Result<(), Fail> {
+    let mut gate = operators_gate(rt.alloc())?;
+    for moment in 0..9 {
+        let request = request_at(100_000_000 + moment)?;
+        let cause = gate.set_aside(Some(100), 7, &request);
+        assert!(rt; cause.is_none() == (moment < 8));
+    }
+    let ninth = request_at(100_000_008)?;
+    assert!(rt; gate.set_aside(Some(100), 7, &ninth) == Some(Cause::Again));
+    assert!(rt; gate.take_request().is_some());
+    assert!(rt; gate.set_aside(Some(100), 7, &ninth).is_none());
     Ok(())
 }

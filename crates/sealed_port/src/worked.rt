@@ -247,6 +247,7 @@ pub fn setups_are_worked()
           node = 2;
           clients = record { number = 7; key = zeros; ahead = 2 }
               ∷ record { number = 258; key = zeros; ahead = 60 } ∷ [];
+          operators = [];
           plain = 2130706433 ∷ [];
           most = Some 2;
         } }

@@ -7,7 +7,7 @@ use Rattle.std.proofs.lemmas.Bool.{cases_lt, eqb-true, ltb-false, le-ltb, and_pa
 use Rattle.std.proofs.Math.Seq.{drop-cons}
 use Rattle.std.proofs.lemmas.List.{get_or-drop, get_or-take, get_or_past, length-take, length-drop, drop-drop}
 use Rattle.std.proofs.lemmas.Nat.{be_bytes_2, be_bytes_8, from_be_bytes-to_be_bytes_2, from_be_bytes-to_be_bytes_8}
-use Rattle.sealed_wire.specs.Body.{IsHead, body_bytes, has_mark, head_at, head_bytes, head_of, kind_byte, kind_of, text_of}
+use Rattle.sealed_wire.specs.Body.{IsHead, body_bytes, has_mark, head_at, head_bytes, head_of, head_within, kind_byte, kind_of, text_of}
 use Rattle.sealed_wire.specs.Bytes.{AreBytes, byte_at, half_at, number_at}
 use Rattle.sealed_wire.specs.declared.head.Head.{Head}
 use Rattle.sealed_wire.specs.declared.head.Kind.{Kind}
@@ -127,9 +127,9 @@ mapped f (Some x) y e = (x, refl, some_is (f x) y e)
 mapped f None y e = absurd cc
 
 -- what a head was read of
-pub record HeadAt (body : List ℕ) (head : Head) : Type 0 where
+pub record HeadAt (limit : ℕ) (body : List ℕ) (head : Head) : Type 0 where
   pub least : 15 ≤ length body
-  pub most : length body ≤ 271
+  pub most : length body ≤ limit
   pub mark_0 : byte_at body 0 ≡ 0x4f
   pub mark_1 : byte_at body 1 ≡ 0x53
   pub version : byte_at body 2 ≡ 1
@@ -138,17 +138,16 @@ pub record HeadAt (body : List ℕ) (head : Head) : Type 0 where
   pub node : byte_at body 6 ≡ head.node
   pub moment : number_at body 7 ≡ head.moment
 
-pub head_takes : (body : List ℕ) (head : Head) → head_at body ≡ Some head → HeadAt body head
-unfolding head_at
-head_takes body head e =
+pub within_takes : (limit : ℕ) (body : List ℕ) (head : Head) → head_within limit body ≡ Some head → HeadAt limit body head
+within_takes limit body head e =
     let rest = option_map (head_of body) (kind_of (byte_at body 3)) in
-    let a = not_refused (ltb (length body) 15 || ltb 271 (length body)) (cond (not (has_mark body)) None rest) head e in
-    let s = or_false (ltb (length body) 15) (ltb 271 (length body)) a.0 in
+    let a = not_refused (ltb (length body) 15 || ltb limit (length body)) (cond (not (has_mark body)) None rest) head e in
+    let s = or_false (ltb (length body) 15) (ltb limit (length body)) a.0 in
     let b = passed (has_mark body) rest head a.1 in
     let m = and_parts (eqb (byte_at body 0) 0x4f) (eqb (byte_at body 1) 0x53 && eqb (byte_at body 2) 1) b.0 in
     let n = and_parts (eqb (byte_at body 1) 0x53) (eqb (byte_at body 2) 1) m.1 in
     let k = mapped (head_of body) (kind_of (byte_at body 3)) head b.1 in
-    subst (λ (h : Head). HeadAt body h) k.2 (record {
+    subst (λ (h : Head). HeadAt limit body h) k.2 (record {
       least = ltb-false _ _ s.0;
       most = ltb-false _ _ s.1;
       mark_0 = eqb-true _ _ m.0;
@@ -160,23 +159,41 @@ head_takes body head e =
       moment = refl;
     })
 
+pub head_takes : (body : List ℕ) (head : Head) → head_at body ≡ Some head → HeadAt 271 body head
+unfolding head_at
+head_takes body head e = within_takes 271 body head e
+
 -- what a body is spelled like
+pub within_spelled : (limit : ℕ) (body : List ℕ) (head : Head) → AreBytes body → HeadAt limit body head → body ≡ body_bytes head (text_of body)
+within_spelled limit body head fits h = head_there body head fits h.least h.mark_0 h.mark_1 h.version h.kind h.client h.node h.moment
+
 pub spelled : (body : List ℕ) (head : Head) → AreBytes body → head_at body ≡ Some head → body ≡ body_bytes head (text_of body)
-spelled body head fits e =
-    let h = head_takes body head e in
-    head_there body head fits h.least h.mark_0 h.mark_1 h.version h.kind h.client h.node h.moment
+spelled body head fits e = within_spelled 271 body head fits (head_takes body head e)
 
 -- what is spelled is read
-pub head_again : (head : Head) (text : List ℕ) → IsHead head → length text ≤ 256 → head_at (body_bytes head text) ≡ Some head
-unfolding head_at
-head_again head text h le =
+pub within_again : (limit : ℕ) (head : Head) (text : List ℕ) → IsHead head → 15 + length text ≤ limit → head_within limit (body_bytes head text) ≡ Some head
+within_again limit head text h le =
     let body = body_bytes head text in
     let len : length body ≡ 15 + length text = length-append (head_bytes head) text in
     let short : ltb (length body) 15 ≡ false = le-ltb (length body) 15 (omega arith) in
-    let long : ltb 271 (length body) ≡ false = le-ltb 271 (length body) (omega arith) in
+    let long : ltb limit (length body) ≡ false = le-ltb limit (length body) (omega arith) in
     let client : half_at body 4 ≡ head.client = from_be_bytes-to_be_bytes_2 head.client (omega (arith, h.client_below)) in
     let moment : number_at body 7 ≡ head.moment = from_be_bytes-to_be_bytes_8 head.moment (omega (arith, h.moment_below)) in
     rw (short, long, kind_again head.kind, client, moment) refl
 
+pub head_again : (head : Head) (text : List ℕ) → IsHead head → length text ≤ 256 → head_at (body_bytes head text) ≡ Some head
+unfolding head_at
+head_again head text h le = within_again 271 head text h (omega arith)
+
 pub text_again : (head : Head) (text : List ℕ) → text_of (body_bytes head text) ≡ text
 text_again head text = refl
+
+-- a head of a body is its head with a higher limit
+pub within_more : (body : List ℕ) (head : Head) → head_at body ≡ Some head → head_within 1039 body ≡ Some head
+unfolding head_at
+within_more body head e =
+    let rest = cond (not (has_mark body)) None (option_map (head_of body) (kind_of (byte_at body 3))) in
+    let a = not_refused (ltb (length body) 15 || ltb 271 (length body)) rest head e in
+    let s = or_false (ltb (length body) 15) (ltb 271 (length body)) a.0 in
+    let long : ltb 1039 (length body) ≡ false = le-ltb 1039 (length body) (omega (arith, ltb-false 271 (length body) s.1)) in
+    rw (s.0, long) a.1

@@ -1,3 +1,4 @@
 pub mod BodyLemmas
 pub mod MakingLemmas
+pub mod ReportLemmas
 pub mod TagLemmas

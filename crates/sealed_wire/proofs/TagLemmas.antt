@@ -35,12 +35,12 @@ short_is_untagged key bound bytes short tagged =
 
 -- ---- a body followed by its tag
 
-body_of-tagged : (body tag : List ℕ) → length tag ≡ 32 → body_of (body ++ tag) ≡ body
+pub body_of-tagged : (body tag : List ℕ) → length tag ≡ 32 → body_of (body ++ tag) ≡ body
 body_of-tagged body tag len =
     let front : length (body ++ tag) - 32 ≡ length body = omega (arith, length-append body tag, len) in
     rw front (take-append-le (length body) body tag (omega arith) ∙ take_all (length body) body (omega arith))
 
-tag_at-tagged : (body tag : List ℕ) → length tag ≡ 32 → tag_at (body ++ tag) ≡ tag
+pub tag_at-tagged : (body tag : List ℕ) → length tag ≡ 32 → tag_at (body ++ tag) ≡ tag
 tag_at-tagged body tag len =
     let front : length (body ++ tag) - 32 ≡ length body = omega (arith, length-append body tag, len) in
     rw front (drop-append-le (length body) body tag (omega arith) ∙ ap (λ (rest : List ℕ). rest ++ tag) (drop_all (length body) body (omega arith)))

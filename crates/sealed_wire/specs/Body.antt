@@ -47,12 +47,16 @@ abbrev pub head_of : List ℕ → Kind → Head
 head_of body kind =
     record { kind = kind; client = half_at body 4; node = byte_at body 6; moment = number_at body 7 }
 
--- the head of a body, if a text of at most 256 bytes follows it
-unfoldable pub head_at : List ℕ → Option Head
-head_at body =
-    if nat_lt (length body) 15 || nat_lt 271 (length body) then None
+-- the head of a body of at most the given length
+abbrev pub head_within : ℕ → List ℕ → Option Head
+head_within most body =
+    if nat_lt (length body) 15 || nat_lt most (length body) then None
     else if not (has_mark body) then None
     else option_map (head_of body) (kind_of (byte_at body 3))
+
+-- the head of a body, if a text of at most 256 bytes follows it
+unfoldable pub head_at : List ℕ → Option Head
+head_at body = head_within 271 body
 
 -- the text after the head
 abbrev pub text_of : List ℕ → List ℕ

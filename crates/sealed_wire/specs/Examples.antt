@@ -1,7 +1,7 @@
 -- Worked cases: sealed datagrams.
 use Rattle.std.specs.Prelude.{ℕ, List, [], ◌∷◌, ◌++◌, codes}
 use Rattle.sealed_wire.specs.declared.head.Head.{Head}
-use Rattle.sealed_wire.specs.declared.head.Kind.TheVariants.{Line, Answer}
+use Rattle.sealed_wire.specs.declared.head.Kind.TheVariants.{Line, Answer, Report, Request}
 
 -- client 258's line for node 2, at 1,000,000 microseconds
 abbrev pub line_head : Head
@@ -39,3 +39,43 @@ sealed_line = line_head_bytes ++ codes "CHECK k1 ann 755224 -" ++ line_tag
 
 abbrev pub sealed_answer : List ℕ
 sealed_answer = answer_head_bytes ++ codes "OK k1 0" ++ answer_tag
+
+-- operator 258's request to node 2, of the same moment, and node 2's report on it
+abbrev pub request_head : Head
+request_head = record { kind = Request; client = 258; node = 2; moment = 1000000 }
+
+abbrev pub report_of_request : Head
+report_of_request = record { kind = Report; client = 258; node = 2; moment = 1000000 }
+
+-- the head of the request as bytes
+abbrev pub request_head_bytes : List ℕ
+request_head_bytes =
+    0x4f ∷ 0x53 ∷ 0x01 ∷ 0x03 ∷ 0x01 ∷ 0x02 ∷ 0x02 ∷ 0x00 ∷ 0x00 ∷ 0x00 ∷ 0x00 ∷ 0x00 ∷ 0x0f ∷ 0x42 ∷ 0x40 ∷ []
+
+-- the head of the report as bytes
+abbrev pub report_head_bytes : List ℕ
+report_head_bytes =
+    0x4f ∷ 0x53 ∷ 0x01 ∷ 0x04 ∷ 0x01 ∷ 0x02 ∷ 0x02 ∷ 0x00 ∷ 0x00 ∷ 0x00 ∷ 0x00 ∷ 0x00 ∷ 0x0f ∷ 0x42 ∷ 0x40 ∷ []
+
+-- the tag of the request `STATUS` under the key of 32 zeros, by Python's hmac
+abbrev pub request_tag : List ℕ
+request_tag =
+    0xe7 ∷ 0x55 ∷ 0x18 ∷ 0x6b ∷ 0x72 ∷ 0xc5 ∷ 0x36 ∷ 0xf0 ∷ 0xad ∷ 0xd7 ∷ 0x0f ∷ 0xac ∷ 0x45 ∷ 0x0c ∷ 0xf3 ∷ 0x1a ∷
+    0xdd ∷ 0x59 ∷ 0x55 ∷ 0xc6 ∷ 0xc5 ∷ 0x98 ∷ 0xa0 ∷ 0xd9 ∷ 0xa8 ∷ 0x73 ∷ 0x93 ∷ 0xb8 ∷ 0x36 ∷ 0x2f ∷ 0xd1 ∷ 0xa3 ∷ []
+
+-- the text of the report
+abbrev pub report_text : List ℕ
+report_text = codes "node 2 of 3" ++ 10 ∷ codes "end" ++ 10 ∷ []
+
+-- the tag of the report on the request
+abbrev pub report_tag : List ℕ
+report_tag =
+    0xfe ∷ 0x0e ∷ 0x41 ∷ 0x63 ∷ 0x5e ∷ 0xf0 ∷ 0x53 ∷ 0xb9 ∷ 0x9a ∷ 0x42 ∷ 0xe2 ∷ 0xff ∷ 0x8c ∷ 0x6e ∷ 0xd9 ∷ 0x92 ∷
+    0x8d ∷ 0xa3 ∷ 0xe3 ∷ 0x60 ∷ 0x99 ∷ 0xd4 ∷ 0x5e ∷ 0x3d ∷ 0x5e ∷ 0x93 ∷ 0x80 ∷ 0x6e ∷ 0x35 ∷ 0x61 ∷ 0x83 ∷ 0xe7 ∷ []
+
+-- the request and the report, sealed
+abbrev pub sealed_request : List ℕ
+sealed_request = request_head_bytes ++ codes "STATUS" ++ request_tag
+
+abbrev pub sealed_report : List ℕ
+sealed_report = report_head_bytes ++ report_text ++ report_tag

@@ -28,16 +28,27 @@ bound_len Answer = 32
 bound_len Request = 0
 bound_len Report = 32
 
+-- the maximum length of the text of a kind
+abbrev pub text_len : Kind → ℕ
+text_len Line = 256
+text_len Answer = 256
+text_len Request = 256
+text_len Report = 1024
+
 -- the making is in the format
 pub record IsMaking (making : Making) : Type 0 where
   pub head_in_range : IsHead making.head
-  pub text_fits : length making.text ≤ 256
+  pub text_fits : length making.text ≤ text_len making.head.kind
   pub bound_fits : length making.bound ≡ bound_len making.head.kind
 
 -- the making is in the list
 pub record IsMade (made : List Making) (making : Making) : Type 0 where
   pub place : ℕ
   pub is_there : slice_get made place ≡ Some making
+
+-- two texts with the same tag are the same text
+abbrev pub IsApart : List ℕ → List ℕ → List ℕ → Type 0
+IsApart key text other = tag_of key text ≡ tag_of key other → text ≡ other
 
 -- All makings of the holders of the key. Each is in the format, and no two of different texts have the same tag.
 pub record AreMakings (key : List ℕ) (made : List Making) : Type 0 where
@@ -56,7 +67,7 @@ abbrev pub IsUnforged : List ℕ → List Making → List ℕ → List ℕ → T
 IsUnforged key made bound bytes = IsTagged key bound bytes → WasTagged made (body_of bytes ++ bound)
 
 -- An answer that a client reads from a datagram with its line's tag as bound bytes. A holder of the key made the answer
--- for the tag, and of all makings only the client's line has the tag.
+-- for the tag, and of all makings only the client's line has the tag. A report is so to an operator's request.
 pub record IsAnswerTo (key : List ℕ) (made : List Making) (line : Making) (head : Head) (answer : List ℕ) : Type 0 where
   pub is_made : IsMade made (record { bound = making_tag key line; head = head; text = answer })
   pub only : (other : Making) → IsMade made other → making_tag key other ≡ making_tag key line → other ≡ line

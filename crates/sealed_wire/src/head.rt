@@ -53,6 +53,6 @@ pub struct Head {
     /// The node that receives or sends it.
     pub node: u8,
     /// The time at which the client sealed the line, in microseconds since 1970-01-01 00:00:00 UTC. An answer has the
-    /// moment of its line.
+    /// moment of its line, and a report the moment of its request.
     pub moment: u64,
 }

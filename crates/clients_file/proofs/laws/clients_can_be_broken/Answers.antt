@@ -1,8 +1,9 @@
 -- Each part is computed.
 use Rattle.std.proofs.Common.{◌≡◌, zero, suc, ◌≤◌, lit<, lit≤, refl, ap, arith}
 use Rattle.std.specs.Prelude.{All, slice_index}
-use Rattle.clients_file.specs.Clients.{AreTwo, IsLoopback}
-use Rattle.clients_file.specs.Examples.{client_at, whole_clients}
+use Rattle.sealed_wire.specs.declared.right.Right.TheVariants.{Operator, Reader}
+use Rattle.clients_file.specs.Clients.{AreTwo, AreTwoOperators, IsLoopback, IsNoOperator, entry_of}
+use Rattle.clients_file.specs.Examples.{client_at, operator_at, operators_clients, whole_clients}
 use Rattle.std.specs.List.{AllPairs}
 use Rattle.clients_file.proofs.laws.clients_can_be_broken.Goals as goal
 
@@ -29,12 +30,78 @@ returns-clause-clients c = record {
   some = lit≤ tt;
   few = lit≤ tt;
   apart = two_apart;
+  operators_apart = λ i j d before within. absurd (omega (arith, within));
+  between = λ k d within i e here. absurd (omega (arith, here));
   few_plain = lit≤ tt;
   plain = one_loopback;
   least_ahead = lit≤ tt;
   most_ahead = lit≤ tt;
   failures = (lit≤ tt, lit≤ tt);
 }
+
+nine_and_ten : AreTwoOperators (operator_at Operator 9) (operator_at Reader 10)
+nine_and_ten = record {
+  numbers = λ e. absurd (omega (arith, e));
+  keys = λ e. let same : 9 ≡ 10 = ap (λ block. slice_index block 15) e in absurd (omega (arith, same));
+}
+
+operators_apart : AllPairs AreTwoOperators operators_clients.operators
+operators_apart zero zero d before within = absurd (omega (arith, before))
+operators_apart zero (suc zero) d before within = nine_and_ten
+operators_apart zero (suc (suc j)) d before within = absurd (omega (arith, within))
+operators_apart (suc i) zero d before within = absurd (omega (arith, before))
+operators_apart (suc i) (suc zero) d before within = absurd (omega (arith, before))
+operators_apart (suc i) (suc (suc j)) d before within = absurd (omega (arith, within))
+
+seven_and_nine : AreTwo (client_at 7) (entry_of (operator_at Operator 9))
+seven_and_nine = record {
+  numbers = λ e. absurd (omega (arith, e));
+  keys = λ e. let same : 7 ≡ 9 = ap (λ block. slice_index block 15) e in absurd (omega (arith, same));
+}
+
+seven_and_ten : AreTwo (client_at 7) (entry_of (operator_at Reader 10))
+seven_and_ten = record {
+  numbers = λ e. absurd (omega (arith, e));
+  keys = λ e. let same : 7 ≡ 10 = ap (λ block. slice_index block 15) e in absurd (omega (arith, same));
+}
+
+seven_is_none : IsNoOperator operators_clients.operators (client_at 7)
+seven_is_none zero d within = seven_and_nine
+seven_is_none (suc zero) d within = seven_and_ten
+seven_is_none (suc (suc k)) d within = absurd (omega (arith, within))
+
+between : All (IsNoOperator operators_clients.operators) operators_clients.clients
+between zero d within = seven_is_none
+between (suc k) d within = absurd (omega (arith, within))
+
+pub returns-clause-with_operators : goal.returns-clause-with_operators
+returns-clause-with_operators c = record {
+  some = lit≤ tt;
+  few = lit≤ tt;
+  apart = λ i j d before within. absurd (omega (arith, before, within));
+  operators_apart = operators_apart;
+  between = between;
+  few_plain = lit≤ tt;
+  plain = λ k d within. absurd (omega (arith, within));
+  least_ahead = lit≤ tt;
+  most_ahead = lit≤ tt;
+  failures = tt;
+}
+
+pub returns-clause-thirty_three_each : goal.returns-clause-thirty_three_each
+returns-clause-thirty_three_each c = λ clients are one two. let few = are.few in omega (arith, few, one, two)
+
+pub returns-clause-same_operator : goal.returns-clause-same_operator
+returns-clause-same_operator c = λ are. (are.operators_apart 0 2 (operator_at Operator 0) (lit< tt) (lit< tt)).numbers refl
+
+pub returns-clause-operator_with_the_key : goal.returns-clause-operator_with_the_key
+returns-clause-operator_with_the_key c = λ are. (are.operators_apart 0 1 (operator_at Operator 0) (lit< tt) (lit< tt)).keys refl
+
+pub returns-clause-operator_and_client : goal.returns-clause-operator_and_client
+returns-clause-operator_and_client c = λ are. (are.between 0 (client_at 0) (lit< tt) 1 (operator_at Operator 0) (lit< tt)).numbers refl
+
+pub returns-clause-operator_with_a_clients_key : goal.returns-clause-operator_with_a_clients_key
+returns-clause-operator_with_a_clients_key c = λ are. (are.between 1 (client_at 0) (lit< tt) 1 (operator_at Operator 0) (lit< tt)).keys refl
 
 pub returns-clause-nobody : goal.returns-clause-nobody
 returns-clause-nobody c = λ are. let some : 1 ≤ 0 = are.some in absurd (omega (arith, some))

@@ -39,3 +39,15 @@ returns-clause-blocks c = refl
 pub returns-clause-used : goal.returns-clause-used
 unfolding read_ipv4 read_octet read_number decode_pairs
 returns-clause-used c = refl
+
+pub returns-clause-words_of_operators : goal.returns-clause-words_of_operators
+unfolding read_ipv4 read_octet read_number decode_pairs
+returns-clause-words_of_operators c = refl
+
+pub returns-clause-used_by_operators : goal.returns-clause-used_by_operators
+unfolding read_ipv4 read_octet read_number decode_pairs
+returns-clause-used_by_operators c = refl
+
+pub returns-clause-blocks_of_operators : goal.returns-clause-blocks_of_operators
+unfolding read_ipv4 read_octet read_number decode_pairs
+returns-clause-blocks_of_operators c = refl

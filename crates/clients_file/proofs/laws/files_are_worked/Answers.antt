@@ -39,3 +39,11 @@ returns-clause-too_long c = refl
 pub returns-clause-faults : goal.returns-clause-faults
 unfolding read_ipv4 read_octet read_number decode_pairs
 returns-clause-faults c = refl
+
+pub returns-clause-with_operators : goal.returns-clause-with_operators
+unfolding read_ipv4 read_octet read_number decode_pairs
+returns-clause-with_operators c = refl
+
+pub returns-clause-operators_alone : goal.returns-clause-operators_alone
+unfolding read_ipv4 read_octet read_number decode_pairs
+returns-clause-operators_alone c = refl

@@ -91,3 +91,35 @@ returns-clause-bad_failures c = refl
 pub returns-clause-twice_failures : goal.returns-clause-twice_failures
 unfolding read_ipv4 read_octet read_number decode_pairs
 returns-clause-twice_failures c = refl
+
+pub returns-clause-operator : goal.returns-clause-operator
+unfolding read_ipv4 read_octet read_number decode_pairs
+returns-clause-operator c = refl
+
+pub returns-clause-reader : goal.returns-clause-reader
+unfolding read_ipv4 read_octet read_number decode_pairs
+returns-clause-reader c = refl
+
+pub returns-clause-client_after_operators : goal.returns-clause-client_after_operators
+unfolding read_ipv4 read_octet read_number decode_pairs
+returns-clause-client_after_operators c = refl
+
+pub returns-clause-numbers_of_operators : goal.returns-clause-numbers_of_operators
+unfolding read_ipv4 read_octet read_number decode_pairs
+returns-clause-numbers_of_operators c = refl
+
+pub returns-clause-keys_of_operators : goal.returns-clause-keys_of_operators
+unfolding read_ipv4 read_octet read_number decode_pairs
+returns-clause-keys_of_operators c = refl
+
+pub returns-clause-last_operator : goal.returns-clause-last_operator
+unfolding read_ipv4 read_octet read_number decode_pairs
+returns-clause-last_operator c = refl
+
+pub returns-clause-too_many_operators : goal.returns-clause-too_many_operators
+unfolding read_ipv4 read_octet read_number decode_pairs
+returns-clause-too_many_operators c = refl
+
+pub returns-clause-bad_operators : goal.returns-clause-bad_operators
+unfolding read_ipv4 read_octet read_number decode_pairs
+returns-clause-bad_operators c = refl

@@ -8,7 +8,7 @@ abbrev pub invariant-loop-place : goal.invariant-loop-place
 invariant-loop-place l = record {
   within : l.place ≤ length l.floors;
   most : array_vec_len l.news ≤ l.place;
-  each : length l.known ≡ length l.names;
-  told : l.news.items ++ news l.names l.known (drop l.place l.floors) ≡ news l.names l.initial.known l.floors;
-  raised : after_floors l.names l.known (drop l.place l.floors) ≡ after_floors l.names l.initial.known l.floors;
+  each : length l.known ≡ length l._names;
+  told : l.news.items ++ news l._names l.known (drop l.place l.floors) ≡ news l._names l.initial.known l.floors;
+  raised : after_floors l._names l.known (drop l.place l.floors) ≡ after_floors l._names l.initial.known l.floors;
 }

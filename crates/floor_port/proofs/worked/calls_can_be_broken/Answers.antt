@@ -1,7 +1,8 @@
 -- A record that is short, another packer, and calls that the port doesn't make.
-use Rattle.std.proofs.Common.{◌≡◌, List, [], ◌∷◌, refl, ap, arith}
-use Rattle.std.specs.Prelude.{Some}
+use Rattle.std.proofs.Common.{◌≡◌, ℕ, List, [], ◌∷◌, refl, ap, arith}
+use Rattle.std.specs.Prelude.{Some, slice_index}
 use Rattle.datagram_port.specs.Port.{Faulted, PortEvent}
+use Rattle.node_log.specs.declared.gatekeeper.Fell.{Fell}
 use Rattle.floor_port.specs.Examples.{from_1}
 use Rattle.floor_port.specs.Packer.{PackerRecord}
 use Rattle.floor_port.proofs.worked.calls_can_be_broken.Goals as goal
@@ -42,3 +43,17 @@ returns-clause-asked_too_early c = refl
 
 pub returns-clause-offer_came : goal.returns-clause-offer_came
 returns-clause-offer_came c = refl
+
+-- the first byte of the name of the first of some falls
+abbrev first_byte : List Fell → ℕ
+first_byte (fell ∷ fells) = slice_index fell.name 0
+first_byte [] = 0
+
+pub returns-clause-untold : goal.returns-clause-untold
+returns-clause-untold c = record { few = omega arith; last = refl }
+
+pub returns-clause-first_untold : goal.returns-clause-first_untold
+returns-clause-first_untold c = λ h. (let e = ap (λ (l : List Fell). first_byte l) h.last in absurd (omega (arith, e)))
+
+pub returns-clause-never_fell : goal.returns-clause-never_fell
+returns-clause-never_fell c = λ h. (let few = h.few in absurd (omega (arith, few)))

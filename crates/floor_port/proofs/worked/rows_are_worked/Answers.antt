@@ -43,3 +43,6 @@ returns-clause-around c = refl
 
 pub returns-clause-all : goal.returns-clause-all
 returns-clause-all c = refl
+
+pub returns-clause-rows : goal.returns-clause-rows
+returns-clause-rows c = refl

@@ -5,6 +5,9 @@ use Rattle.floor_port.proofs.worked.witnesses_are_worked.Goals as goal
 pub returns-clause-ask : goal.returns-clause-ask
 returns-clause-ask c = refl
 
+pub returns-clause-over_255 : goal.returns-clause-over_255
+returns-clause-over_255 c = refl
+
 pub returns-clause-grant : goal.returns-clause-grant
 returns-clause-grant c = refl
 

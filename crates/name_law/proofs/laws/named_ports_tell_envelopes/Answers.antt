@@ -1,4 +1,5 @@
 -- Each clause is a lemma.
+use Rattle.name_law.proofs.Datagrams.{is_vote}
 use Rattle.name_law.proofs.Ports.{inputs_law, offers_law, reads_law}
 use Rattle.name_law.proofs.laws.named_ports_tell_envelopes.Goals as goal
 
@@ -7,6 +8,9 @@ returns-clause-inputs c = λ names setting node boot terms found taken calls lef
 
 pub returns-clause-reads : goal.returns-clause-reads
 returns-clause-reads c = λ names node from terms calls offered read r h. reads_law names node terms calls offered from read r h
+
+pub returns-clause-votes : goal.returns-clause-votes
+returns-clause-votes c = λ names node from terms bytes h. is_vote names node from terms bytes h
 
 pub returns-clause-offers : goal.returns-clause-offers
 returns-clause-offers c = λ names node boot terms calls own seated e. offers_law names node terms boot calls own seated e

@@ -39,6 +39,14 @@ pub returns-clause-kinds : goal.returns-clause-kinds
 unfolding named_of numbered_of
 returns-clause-kinds c = refl
 
+pub returns-clause-another_node : goal.returns-clause-another_node
+unfolding named_of numbered_of tag_of datagram_bytes datagram_at head_at sha256_steps.first_words sha256_steps.schedule sha256_steps.rounds sha256_steps.compress sha256_steps.hash_after sha256_steps.digest_bytes sha256_steps.sha256
+returns-clause-another_node c = refl
+
+pub returns-clause-wrong_last : goal.returns-clause-wrong_last
+unfolding named_of numbered_of
+returns-clause-wrong_last c = refl
+
 pub returns-clause-several : goal.returns-clause-several
 unfolding named_of numbered_of
 returns-clause-several c = refl

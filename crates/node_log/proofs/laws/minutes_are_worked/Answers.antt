@@ -1,9 +1,10 @@
 -- Each case is computed.
 use Rattle.std.proofs.Common.{refl}
 use Rattle.std.specs.Fmt.{digits}
+use Rattle.hex.specs.Hex.{encode_with}
 use Rattle.node_log.specs.Differing.{differing_text}
 use Rattle.node_log.specs.Members.{member_line}
-use Rattle.node_log.specs.Minute.{causes_text, numbered, older_line, unopened_line}
+use Rattle.node_log.specs.Minute.{causes_text, fell_line, numbered, older_line, token_text, unopened_line}
 use Rattle.node_log.proofs.laws.minutes_are_worked.Goals as goal
 
 pub returns-clause-line : goal.returns-clause-line
@@ -43,8 +44,16 @@ unfolding digits member_line differing_text
 returns-clause-two_differ c = refl
 
 pub returns-clause-all : goal.returns-clause-all
-unfolding digits numbered causes_text older_line unopened_line member_line differing_text
+unfolding digits encode_with numbered causes_text older_line token_text fell_line unopened_line member_line differing_text
 returns-clause-all c = refl
+
+pub returns-clause-fell : goal.returns-clause-fell
+unfolding digits encode_with token_text fell_line
+returns-clause-fell c = refl
+
+pub returns-clause-fell_alone : goal.returns-clause-fell_alone
+unfolding digits encode_with token_text fell_line unopened_line differing_text
+returns-clause-fell_alone c = refl
 
 pub returns-clause-differs_alone : goal.returns-clause-differs_alone
 unfolding digits unopened_line member_line differing_text

@@ -10,7 +10,7 @@ abbrev failed : Fault → Result Served Fault
 failed fault = Err fault
 
 pub returns-in-Ok-clause-turns : goal.returns-in-Ok-clause-turns
-returns-in-Ok-clause-turns g c = (c.run_turns.result, c.run_turns.ensures.serves, sym (ap serve_end c.in-Ok.is))
+returns-in-Ok-clause-turns g c = (c.run_turns_until.result, c.run_turns_until.ensures.serves, sym (ap serve_end c.in-Ok.is))
 
 pub returns-in-Err-clause-turns : goal.returns-in-Err-clause-turns
-returns-in-Err-clause-turns g c = (c.run_turns.result, c.run_turns.ensures.serves, ap failed c.from.ensures ∙ sym (ap serve_end c.in-Err.is))
+returns-in-Err-clause-turns g c = (c.run_turns_until.result, c.run_turns_until.ensures.serves, ap failed c.from.ensures ∙ sym (ap serve_end c.in-Err.is))

@@ -18,10 +18,10 @@ returns-clause-turns g c =
     let last = run.1 in
     let same = ap g.P.Port.setup (ap (λ p. p.port.port) below ∙ ap (λ p. p.port) made.0 ∙ joining.port) in
     let lent = c.deref.ensures.value in
-    let floors : port.port.calls.floors ≡ naming.floors.items = ap (λ p. p.calls.floors) below ∙ made.2 ∙ lent in
+    let floors : port.port.calls.floors ≡ naming.floors.items = ap (λ p. p.calls.floors) below ∙ made.3 ∙ lent in
     let start = made.1 ∙ ap (λ (f : List ℕ). new_packer naming.key naming.names naming.node.me naming.node.boot naming.node.members f) lent in
     let packed = ap (λ (f : List ℕ). at_start (packer_of naming) f) (sym floors) in
-    let served = served_under g.S.FloorStore.held c.args.node.now c.serve_port.new.node c.args.turns run.0
+    let served = served_under g.S.FloorStore.held c.args.node.now c.serve_port.new.node c.args.turns (g.U.Until.answers c.serve_port.new.until) run.0
     port.translator last.translator (translator_of naming) port.port.packer last.port.packer (packer_of naming) last.port.port.bundler
     port.calls.events last.calls.events last.port.calls.calls last.port.port.calls.calls (g.P.Port.setup port.port.port.port) (g.P.Port.setup last.port.port.port)
     port.port.calls.floors last.port.calls.floors (g.P.Port.events last.port.port.port) c.new-named.ensures.translator refl c.new-named.ensures.calls

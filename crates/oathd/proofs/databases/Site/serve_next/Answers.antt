@@ -1,0 +1,25 @@
+use Rattle.std.proofs.Common.{◌≡◌, ◌<◌, ℕ, subst}
+use Rattle.std.specs.Prelude.{◌⊎◌, IfOk}
+use Rattle.oathd.specs.declared.reload.Boot.{Boot}
+use Rattle.oathd.proofs.ReloadLemmas.{boot_alone, boot_back}
+use Rattle.oathd.proofs.databases.Site.serve_next.Goals as goal
+
+pub returns-then-not-is_full-clause-boot : goal.returns-then-not-is_full-clause-boot
+returns-then-not-is_full-clause-boot g c =
+    boot_alone _ _ _ _ c.args.boot c.with_turns-boot.result c.serve_boot-served.result c.with_turns-boot.ensures.turns c.with_turns-boot.ensures.text
+    c.with_turns-boot.ensures.former c.serve_boot-served.ensures.boot
+
+pub returns-in_default-clause-boot : goal.returns-in_default-clause-boot
+returns-in_default-clause-boot g c =
+    boot_alone _ _ _ _ c.args.boot c.with_turns-boot.result c.serve_boot-served.result c.with_turns-boot.ensures.turns c.with_turns-boot.ensures.text
+    c.with_turns-boot.ensures.former c.serve_boot-served.ensures.boot
+
+pub returns-clause-boot : goal.returns-clause-boot
+returns-clause-boot g c =
+    boot_back _ _ _ _ c.args.boot c.with_turns-boot-2.result c.in-Some.former c.serve_boot.result c.with_turns-boot-2.ensures.turns
+    c.with_turns-boot-2.ensures.text c.with_turns-boot-2.ensures.former c.in-Some.is c.serve_boot.ensures.boot
+
+pub returns-clause-fewer : goal.returns-clause-fewer
+returns-clause-fewer g c =
+    subst (λ (turns : ℕ). IfOk c.serve_boot.result (λ (next : Boot). (turns ≡ 0) ⊎ (next.turns < turns))) c.with_turns-boot-2.ensures.turns
+    c.serve_boot.ensures.fewer

@@ -1,0 +1,309 @@
+//! Serves a node by names whose users file is taken again when it changes.
+
+ghost use Rattle.std.specs.Prelude.{◌≡◌, ◌⊎◌, ◌<◌, ◌≤◌, ◌^◌, ℕ, None, false, length, Err, IfErr, IfOk};
+ghost use Rattle.std.specs.Option.{option_map};
+ghost use Rattle.sqlite_wal.specs.Files.{image_at};
+ghost use Rattle.oathd_database.specs.File.{FindsFiles};
+ghost use Rattle.oathd_words.specs.StoreWords.{IsClusterInRange};
+ghost use Rattle.oathd.specs.Named.{IsNamedOf, NamedEndsSo};
+ghost use Rattle.oathd.specs.Reload.{AreServedBoots, IsBoot, IsNextOf, IsOfBoot, IsRefused, IsReloaded, IsTaken, answers_of};
+ghost use Rattle.oathd.specs.Serve.{IsAskedFor, IsMemberOf, IsRunOf};
+
+use crate::databases::{Site, present_moment};
+use crate::fault::Fault;
+use crate::named::named_cluster;
+use crate::refusal::{Refusal, write_refusal};
+use crate::users::users_text;
+use crate::watch::{Found, Stamp, Watch, stamp_of};
+use oathd_causes::NamesFault;
+use oathd_database::{KeptSocket, Serving};
+use oathd_roster::{NamedCluster, RosterFault, read_named_users, serve_named_store};
+use oathd_tasks::{cluster_in, cluster_key, member_place};
+use oathd_words::{ClientWords, ClusterWords};
+use otp_core::Settings;
+use sqlite::{FileFrom, FileStore, Start, Unknown};
+use sqlite_trees::store::Store;
+use std::alloc::Global;
+use std::io::Write;
+use token_names::Salt;
+
+/// What a boot of the node begins with.
+#[derive(Drop)]
+struct Boot {
+    /// The text of the users file, and the stamp of the file when it was read.
+    text: Vec<u8>,
+    taken: Option<Stamp>,
+    /// The text of the boot before, if it was another one.
+    former: Option<Vec<u8>>,
+    /// The number of turns that are left.
+    turns: u64,
+}
+
+impl Boot {
+    /// Returns a boot without one before.
+    fn with_turns(text: Vec<u8>, taken: Option<Stamp>, turns: u64) -> Boot
+        ensures turns { result.turns ≡ turns }
+        ensures text { result.text ≡ text }
+        ensures former { result.former ≡ None }
+    {
+        Boot {
+            text,
+            taken,
+            former: None,
+            turns,
+        }
+    }
+}
+
+/// What holds of the boots after the first one.
+trait Later {
+    ghost use Rattle.oathd_database.specs.declared.serving.Serving.{Serving};
+    ghost use Rattle.oathd_roster.specs.declared.cluster.NamedCluster.{NamedCluster};
+    ghost use Rattle.oathd.specs.declared.reload.Boot.{Boot};
+
+    // A boot with the given parameters and cluster, and the next one.
+    ghost later: { Serving → NamedCluster → Boot → Boot → Type 0 };
+}
+
+impl Later for Boot {
+    ghost use Rattle.std.specs.Prelude.{◌≡◌};
+    ghost use Rattle.sqlite_wal.specs.Files.{image_at};
+    ghost use Rattle.oathd_database.specs.File.{FindsFiles};
+    ghost use Rattle.oathd.specs.Reload.{IsBoot};
+
+    ghost later = { λ asked named. IsBoot ⟦<FileStore<FileFrom<Unknown>> as Store>⟧
+        (FindsFiles (image_at ⟦<Unknown as Start>⟧)) (λ other. other ≡ asked) (λ other. other ≡ named) };
+}
+
+/// Returns whether a boot ended because the store has no room for its new tokens.
+fn is_full(served: &Result<Boot, Fault<'_>>) -> bool {
+    matches!(served, Err(Fault::Roster(RosterFault::Full)))
+}
+
+/// Refuses a text that a node does not take: with a fault, without a token, or with one name for two tokens.
+fn check_text(alloc: Global, text: &[u8], settings: Settings, salt: &Salt) -> Result<(), Refusal>
+    ensures taken { IfOk result (λ _. IsTaken settings salt.now text.now) }
+    ensures refused { IfErr result (IsRefused settings salt.now text.now) }
+{
+    match read_named_users(alloc, text, settings, 0, salt) {
+        Ok(named) if named.users.book.len() == 0 => Err(Refusal::NoTokens),
+        Ok(_) => Ok(()),
+        Err(fault) => Err(Refusal::from(fault)),
+    }
+}
+
+/// Writes the log's line of a users file that is not taken, if there is a log. A failed write is ignored.
+fn tell_refusal<W: Write>(is_logged: bool, refusal: Refusal, writer: &mut W)
+    ensures unlogged { is_logged ≡ false → writer.new ≡ writer.old }
+{
+    if is_logged {
+        let _written = write_refusal(writer, refusal);
+    }
+}
+
+/// Returns the text of the next boot, after one with `text` for which `found` was found, and `text` if the next one is
+/// another. A refusal is told in the log, if there is one, and changes nothing.
+fn next_text<W: Write>(
+    alloc: Global,
+    text: Vec<u8>,
+    found: Option<Found>,
+    serving: &Serving<'_>,
+    salt: &Salt,
+    writer: &mut W,
+) -> (Vec<u8>, Option<Vec<u8>>)
+    ensures next { IsNextOf serving.now.settings salt.now text.items found result.0.items
+        (option_map (λ text. text.items) result.1) }
+    ensures unlogged { serving.now.is_logged ≡ false → writer.new ≡ writer.old }
+{
+    match found {
+        Some(Found::Text(other)) => match check_text(alloc, &other, serving.settings, salt) {
+            Ok(()) => (other, Some(text)),
+            Err(refusal) => {
+                tell_refusal(serving.is_logged, refusal, writer);
+                (text, None)
+            }
+        },
+        Some(Found::Unread(refusal)) => {
+            tell_refusal(serving.is_logged, refusal, writer);
+            (text, None)
+        }
+        None => (text, None),
+    }
+}
+
+impl<'a> Site<'_, 'a> {
+    /// Serves a node in one boot, until its users file changes. Returns what the next boot begins with.
+    fn serve_boot<S: Start, O: Write>(
+        &self,
+        start: S,
+        cluster: &NamedCluster,
+        serving: &Serving<'_>,
+        boot: Boot,
+        socket: &mut KeptSocket,
+        held: &mut O,
+    ) -> Result<Boot, Fault<'a>>
+        requires { boot.turns < 2 ^ 54 }
+        ensures boot { IfOk result (IsBoot ⟦<FileStore<FileFrom<S>> as Store>⟧ (FindsFiles (image_at S.Start))
+            (λ asked. asked ≡ serving.now) (λ named. named ≡ cluster.now) boot) }
+        ensures fewer { IfOk result (λ next. (boot.turns ≡ 0) ⊎ (next.turns < boot.turns)) }
+        ensures fault { IfErr result (λ fault. (kept : ℕ) × (since : ℕ) × (now : ℕ) × NamedEndsSo
+            ⟦<FileStore<FileFrom<S>> as Store>⟧ (FindsFiles (image_at S.Start))
+            (IsOfBoot (λ asked. asked ≡ serving.now) boot.turns) (λ named. named ≡ cluster.now)
+            (answers_of kept since now) (Err fault)) }
+        ensures unlogged { serving.now.is_logged ≡ false → held.new ≡ held.old }
+    {
+        let (alloc, rt) = (self.alloc, self.rt);
+        let moment = present_moment(rt)?;
+        let Boot {
+            text,
+            taken,
+            turns,
+            ..
+        } = boot;
+        let Ok(own) = serving.again(alloc, turns) else {
+            return Err(Fault::Database(oathd_database::Fault::Memory));
+        };
+        let (settings, member) = (serving.settings, serving.place.me());
+        let mut watch = Watch::new(alloc, rt, self.users, settings, member, &text, taken);
+        let found = self.found(start);
+        let _served = serve_named_store(
+            alloc,
+            rt,
+            text.as_slice(),
+            moment,
+            own,
+            cluster,
+            found,
+            socket,
+            &mut watch,
+            held,
+        )?;
+        let (left, found, taken) = watch.end();
+        let (text, former) = next_text(alloc, text, found, serving, &cluster.salt, held);
+        Ok(Boot {
+            text,
+            taken,
+            former,
+            turns: left.min(turns),
+        })
+    }
+
+    /// Serves a node in a later boot, as [`Site::serve_boot`] does. If the store has no room for its new tokens, the
+    /// node is served with the tokens of the boot before.
+    fn serve_next<O: Write>(
+        &self,
+        cluster: &NamedCluster,
+        serving: &Serving<'_>,
+        boot: Boot,
+        socket: &mut KeptSocket,
+        held: &mut O,
+    ) -> Result<Boot, Fault<'a>>
+        requires { boot.turns < 2 ^ 54 }
+        ensures boot { IfOk result (⟦<Boot as Later>⟧.later serving.now cluster.now boot) }
+        ensures fewer { IfOk result (λ next. (boot.turns ≡ 0) ⊎ (next.turns < boot.turns)) }
+        ensures unlogged { serving.now.is_logged ≡ false → held.new ≡ held.old }
+    {
+        let Boot {
+            text,
+            taken,
+            former,
+            turns,
+        } = boot;
+        let boot = Boot::with_turns(text, taken, turns);
+        let served = self.serve_boot(Unknown, cluster, serving, boot, socket, held);
+        if !is_full(&served) {
+            return served;
+        }
+        let Some(former) = former else {
+            return served;
+        };
+        tell_refusal(serving.is_logged, Refusal::Full, held);
+        let boot = Boot::with_turns(former, taken, turns);
+        self.serve_boot(Unknown, cluster, serving, boot, socket, held)
+    }
+
+    /// Serves a node over its store by names. Takes its users file again when it changes.
+    fn serve_boots<S: Start, O: Write>(
+        &self,
+        start: S,
+        cluster: &NamedCluster,
+        serving: Serving<'_>,
+        held: &mut O,
+    ) -> Result<(), Fault<'a>>
+        ensures boots { IfOk result (λ _. AreServedBoots
+            (IsBoot ⟦<FileStore<FileFrom<S>> as Store>⟧ (FindsFiles (image_at S.Start)) (λ asked. asked ≡ serving.entry)
+            (λ named. named ≡ cluster.now))
+            (⟦<Boot as Later>⟧.later serving.entry cluster.now) serving.entry.turns) }
+        ensures unlogged { serving.entry.is_logged ≡ false → held.new ≡ held.old }
+    {
+        let moment = present_moment(self.rt)?;
+        let taken = stamp_of(self.rt, self.users);
+        let text = users_text(self.alloc, self.rt, self.users, serving.settings, moment)?;
+        let mut socket = KeptSocket::new();
+        let turns = serving.turns;
+        let first = Boot::with_turns(text, taken, turns);
+        let mut boot = self.serve_boot(start, cluster, &serving, first, &mut socket, held)?;
+        while boot.turns > 0 {
+            boot = self.serve_next(cluster, &serving, boot, &mut socket, held)?;
+        }
+        Ok(())
+    }
+
+    /// Serves the member `node` of the cluster that the text of the cluster file describes. Takes its users file again
+    /// when it changes. The cluster file has to give names.
+    fn reload_member<S: Start, O: Write>(
+        &self,
+        start: S,
+        node: u8,
+        turns: u64,
+        is_logged: bool,
+        clients: ClientWords<'a>,
+        held: &mut O,
+    ) -> Result<(), Fault<'a>>
+        requires node { 1 ≤ node }
+        requires turns { turns < 2 ^ 54 }
+        ensures boot { IfOk result (λ _. (first : Boot) × (next : Boot) × (first.turns ≡ turns)
+            × IsBoot ⟦<FileStore<FileFrom<S>> as Store>⟧ (FindsFiles (image_at S.Start))
+            (λ serving. IsMemberOf node self.now.cluster.now serving × IsRunOf turns is_logged clients.entry serving)
+            (IsNamedOf self.now.cluster.now) first next) }
+        ensures unlogged { is_logged ≡ false → held.new ≡ held.old }
+    {
+        let cluster = cluster_in(self.alloc, self.cluster)?;
+        let place = member_place(&cluster, node)?;
+        let key = cluster_key(self.alloc, self.rt, &cluster.key)?;
+        let lines = self.lines_of(clients)?;
+        let Some(named) = named_cluster(&cluster, place.n())? else {
+            return Err(Fault::Names(NamesFault::PlainReload));
+        };
+        match Serving::of_member(&cluster, key, place, turns, is_logged, lines) {
+            Ok(serving) => self.serve_boots(start, &named, serving, held),
+            Err(_) => Err(Fault::Database(oathd_database::Fault::Memory)),
+        }
+    }
+
+    /// Serves a node of the cluster that the text of the cluster file describes. Takes its users file again when it
+    /// changes.
+    pub(crate) fn reload<S: Start, O: Write>(
+        &self,
+        start: S,
+        cluster: ClusterWords<'a>,
+        turns: u64,
+        is_logged: bool,
+        clients: ClientWords<'a>,
+        held: &mut O,
+    ) -> Result<(), Fault<'a>>
+        requires cluster { IsClusterInRange cluster }
+        requires turns { turns < 2 ^ 54 }
+        ensures boot { IfOk result (λ _. IsReloaded ⟦<FileStore<FileFrom<S>> as Store>⟧ (FindsFiles (image_at S.Start))
+            (IsAskedFor cluster.entry turns is_logged clients.entry self.now.cluster.now) cluster.entry turns
+            self.now.cluster.now) }
+        ensures unlogged { is_logged ≡ false → held.new ≡ held.old }
+    {
+        match cluster {
+            ClusterWords::Given { .. } => Err(Fault::Names(NamesFault::PlainReload)),
+            ClusterWords::Named { node, .. } => {
+                self.reload_member(start, node, turns, is_logged, clients, held)
+            }
+        }
+    }
+}
