@@ -238,12 +238,13 @@ fn single_floors(rt: HostRuntime) -> Result<(), Fail> {
     Ok(())
 }
 
-/// Returns a Grant of the node to member 3, of the second row's factors up to 7.
+/// Returns a Grant of the node to member 3, of the second row's factor 7.
 fn grant(alloc: Global) -> Result<Vec<u8>, Fail> {
     let list = list(alloc)?;
-    let mut body = [0; 49];
+    let mut body = [0; 41];
     body[..16].copy_from_slice(&name_at(&list, 1)?.bytes());
-    body[48] = 7;
+    body[39] = 7;
+    body[40] = 7;
     let head = Head {
         kind: Kind::Grant,
         from: 2,
