@@ -1,14 +1,14 @@
 # bash completion for oathd(8)
 _oathd() {
     local cur prev words cword split command options= files=
-    local commands='lines sim cluster init serve export audit migrate floors level gates unlock roster check new-key new-cluster secret version help'
+    local commands='lines sim cluster init serve export audit migrate floors level gates unlock roster status drain check new-key new-cluster secret version help'
     _init_completion -s || return
     if ((cword == 1)); then
         COMPREPLY=($(compgen -W "$commands --help --version" -- "$cur"))
         return
     fi
     case $prev in
-        --key | --cluster | --clients | --floors) _filedir; return ;;
+        --key | --cluster | --clients | --floors | --operator) _filedir; return ;;
         --members)
             [[ ${words[1]} != floors ]] || COMPREPLY=($(compgen -W '1 2 3 4 5 6 7 8 9' -- "$cur"))
             return ;;
@@ -26,6 +26,8 @@ _oathd() {
         export | audit | migrate | gates | unlock | roster) options='--node --cluster' files=yes ;;
         floors) options='--node --members --cluster' files=yes ;;
         level) options='--node --floors --cluster' files=yes ;;
+        status) options='--cluster --operator --node' ;;
+        drain) options='--operator --node' ;;
         check) options='--cluster' files=yes ;;
         secret) options='--stdin' ;;
         new-key | new-cluster | version) ;;

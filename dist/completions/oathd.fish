@@ -1,5 +1,5 @@
 # fish completion for oathd(8)
-set -l commands lines sim cluster init serve export audit migrate floors level gates unlock roster check new-key new-cluster secret version help
+set -l commands lines sim cluster init serve export audit migrate floors level gates unlock roster status drain check new-key new-cluster secret version help
 complete -c oathd -f
 complete -c oathd -n __fish_use_subcommand -a lines -d 'Answer the lines of clients after a users file'
 complete -c oathd -n __fish_use_subcommand -a sim -d 'Run a script of events over the nodes of a cluster'
@@ -14,6 +14,8 @@ complete -c oathd -n __fish_use_subcommand -a level -d 'Raise the floors of a no
 complete -c oathd -n __fish_use_subcommand -a gates -d 'Print the failures that a node counts'
 complete -c oathd -n __fish_use_subcommand -a unlock -d 'Forget the failures of a user at a node'
 complete -c oathd -n __fish_use_subcommand -a roster -d 'Print the rows of a store by names'
+complete -c oathd -n __fish_use_subcommand -a status -d 'Print the state of a running node, or of all'
+complete -c oathd -n __fish_use_subcommand -a drain -d 'End a running node when no line waits'
 complete -c oathd -n __fish_use_subcommand -a check -d 'Print what the members of a cluster share'
 complete -c oathd -n __fish_use_subcommand -a new-key -d 'Print a new key for a client of the nodes'
 complete -c oathd -n __fish_use_subcommand -a new-cluster -d 'Print a cluster file with new names, without members'
@@ -25,10 +27,10 @@ complete -c oathd -s h -l help -d 'Print help'
 complete -c oathd -n __fish_use_subcommand -s V -l version -d 'Print version'
 
 # The commands that have an option.
-set -l nodes '__fish_seen_subcommand_from init serve export audit migrate floors level gates unlock roster'
+set -l nodes '__fish_seen_subcommand_from init serve export audit migrate floors level gates unlock roster status drain'
 set -l serving '__fish_seen_subcommand_from serve'
 set -l made '__fish_seen_subcommand_from init'
-set -l agreed '__fish_seen_subcommand_from lines sim cluster init serve check floors export audit migrate level gates unlock roster'
+set -l agreed '__fish_seen_subcommand_from lines sim cluster init serve check floors export audit migrate level gates unlock roster status'
 set -l answering '__fish_seen_subcommand_from lines sim cluster serve'
 set -l importing '__fish_seen_subcommand_from lines sim cluster init'
 set -l skewed '__fish_seen_subcommand_from lines sim cluster serve init'
@@ -36,6 +38,7 @@ set -l skewed '__fish_seen_subcommand_from lines sim cluster serve init'
 complete -c oathd -n '__fish_seen_subcommand_from cluster init serve export audit migrate floors level gates unlock roster check' -F
 complete -c oathd -n $nodes -l node -x -a '1 2 3 4 5 6 7 8 9' -d 'Number of the node'
 complete -c oathd -n $agreed -l cluster -r -F -d 'Cluster file'
+complete -c oathd -n '__fish_seen_subcommand_from status drain' -l operator -r -F -d 'Key file of an operator'
 complete -c oathd -n $serving -l members -x -d 'Addresses in order of their numbers'
 complete -c oathd -n '__fish_seen_subcommand_from floors' -l members -x -a '1 2 3 4 5 6 7 8 9' -d 'How many members there are'
 complete -c oathd -n $made -l lost -x -d 'Numbers of all lost nodes'

@@ -109,7 +109,7 @@ same_token (Deny p t next) = refl
 same_token (Floor t next) = refl
 
 -- the number of a seat is its own
-own_number : (seats : List ℕ) (t : ℕ) → are_apart (length seats) (seat_name seats) ≡ true → t < length seats → number_of (length seats) (seat_name seats) (seat_name seats t) ≡ Some t
+pub own_number : (seats : List ℕ) (t : ℕ) → are_apart (length seats) (seat_name seats) ≡ true → t < length seats → number_of (length seats) (seat_name seats) (seat_name seats t) ≡ Some t
 own_number seats t apart lt =
     let name = seat_name seats in
     ⊎_elim

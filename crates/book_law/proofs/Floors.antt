@@ -10,7 +10,7 @@ use Rattle.vote_core.specs.declared.message.Message.TheVariants.{Ask, Grant, Den
 use Rattle.vote_core.proofs.Basics.{Each, each_append, each_get, each_weaker}
 use Rattle.oath_node.specs.Machine.{NodeEvent, Client, Peer, Tick}
 use Rattle.cluster_sim.proofs.Owners.{get_more}
-use Rattle.book_law.specs.Lives.{Action, Opens, FailsToOpen, Takes, Offers, Stops, StopsIn, Loses, Remakes, Enrols, Unlocks, Raises, Setting}
+use Rattle.book_law.specs.Lives.{Action, Opens, FailsToOpen, Takes, Offers, Stops, StopsIn, Loses, Remakes, Enrols, Unlocks, OpensGate, Raises, Setting}
 use Rattle.book_law.proofs.Effects.{FloorsSent, FloorsSentIn, HasSent, may_tell}
 use Rattle.book_law.proofs.Fits.{get_after}
 
@@ -81,6 +81,7 @@ in_action setting sent (Loses i) h = tt
 in_action setting sent (Remakes i boot given floor) h = tt
 in_action setting sent (Enrols i t floor) h = tt
 in_action setting sent (Unlocks i t) h = tt
+in_action setting sent (OpensGate i t) h = tt
 in_action setting sent (Raises i t floor) h = tt
 
 in_history : (setting : Setting) (sent : List Envelope) (history : List Action) → ((l : Envelope) → HasSent (told_of setting history) l → HasSent sent l) → Each (FloorsSentBy setting sent) history
@@ -117,6 +118,7 @@ action_grows setting sent later grows (Loses i) h = tt
 action_grows setting sent later grows (Remakes i boot given floor) h = tt
 action_grows setting sent later grows (Enrols i t floor) h = tt
 action_grows setting sent later grows (Unlocks i t) h = tt
+action_grows setting sent later grows (OpensGate i t) h = tt
 action_grows setting sent later grows (Raises i t floor) h = tt
 
 pub all_grow : (setting : Setting) (sent later : List Envelope) (history : List Action) → ((l : Envelope) → HasSent sent l → HasSent later l) → Each (FloorsSentBy setting sent) history → Each (FloorsSentBy setting later) history
@@ -175,6 +177,7 @@ old_action setting boot (Loses i) = tt
 old_action setting boot (Remakes i boot' given floor) = tt
 old_action setting boot (Enrols i t floor) = tt
 old_action setting boot (Unlocks i t) = tt
+old_action setting boot (OpensGate i t) = tt
 old_action setting boot (Raises i t floor) = tt
 
 old_history : (setting : Setting) (boot : ℕ → ℕ) (history : List Action) → Each (MayBeOld setting boot) (told_of setting history)

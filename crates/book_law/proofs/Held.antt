@@ -20,7 +20,7 @@ use Rattle.seat_law.specs.Below.{Site, site_of}
 use Rattle.seat_law.specs.Seats.{seat_name}
 use Rattle.seat_law.proofs.Relation.{option_cases}
 use Rattle.book_law.specs.Floors.{IsTakenInAction, TellsHeld, WasHeld, WasHeldAt, WasHeldSomewhere}
-use Rattle.book_law.specs.Lives.{Action, Opens, FailsToOpen, Takes, Offers, Stops, StopsIn, Loses, Remakes, Enrols, Unlocks, Raises, IsHistory, Output, Process, Setting, State, Store, Terms, Down, Up, can_be, first_state, floor_in, floor_in_row, floor_of, node_of_action, place_in, places_of, process_after, row_of, rows_under, state_after, state_after_action, state_of, state_with, store_at, store_under}
+use Rattle.book_law.specs.Lives.{Action, Opens, FailsToOpen, Takes, Offers, Stops, StopsIn, Loses, Remakes, Enrols, Unlocks, OpensGate, Raises, IsHistory, Output, Process, Setting, State, Store, Terms, Down, Up, can_be, first_state, floor_in, floor_in_row, floor_of, node_of_action, place_in, places_of, process_after, row_of, rows_under, state_after, state_after_action, state_of, state_with, store_at, store_under}
 use Rattle.book_law.proofs.Fits.{IsAt}
 use Rattle.book_law.proofs.Opened.{IsOpen, seen_size}
 use Rattle.book_law.proofs.Results.{hidden, open_row, seated_place}
@@ -170,6 +170,7 @@ module _ (setting : Setting) (e from number floor : ℕ) (l : Envelope) (is : l.
   process_told i (Remakes j boot given floors) p opened taken = absurd taken
   process_told i (Enrols j token row_floor) p opened taken = absurd taken
   process_told i (Unlocks j token) p opened taken = absurd taken
+  process_told i (OpensGate j token) p opened taken = absurd taken
   process_told i (Raises j token row_floor) p opened taken = absurd taken
 
   taken_at : (i : ℕ) (d : Action) → IsTakenInAction i (Peer from (Some l)) (Some d) → node_of_action d ≡ i
@@ -183,6 +184,7 @@ module _ (setting : Setting) (e from number floor : ℕ) (l : Envelope) (is : l.
   taken_at i (Remakes j boot given floors) taken = absurd taken
   taken_at i (Enrols j token row_floor) taken = absurd taken
   taken_at i (Unlocks j token) taken = absurd taken
+  taken_at i (OpensGate j token) taken = absurd taken
   taken_at i (Raises j token row_floor) taken = absurd taken
 
   -- the floor of the token at each node, after the action

@@ -14,7 +14,7 @@ use Rattle.cluster_sim.proofs.Gates.{open_by_list}
 use Rattle.seat_law.specs.Below.{site_of}
 use Rattle.seat_law.specs.Seats.{seat_name}
 use Rattle.book_law.specs.Justified.{IsGroundInAction, IsGroundOfInput, IsGroundUnder, JustifiesAll, drift_in_row, drift_of}
-use Rattle.book_law.specs.Lives.{Action, Opens, FailsToOpen, Takes, Offers, Stops, StopsIn, Loses, Remakes, Enrols, Unlocks, Raises, AreGenuine, IsHistory, Output, Process, Setting, State, Store, Terms, Down, Up, accepted_in, first_state, floor_in_row, floor_of, places_of, row_of, state_after_action, state_of, store_at, store_under}
+use Rattle.book_law.specs.Lives.{Action, Opens, FailsToOpen, Takes, Offers, Stops, StopsIn, Loses, Remakes, Enrols, Unlocks, OpensGate, Raises, AreGenuine, IsHistory, Output, Process, Setting, State, Store, Terms, Down, Up, accepted_in, first_state, floor_in_row, floor_of, places_of, row_of, state_after_action, state_of, store_at, store_under}
 use Rattle.book_law.specs.Results.{results_in}
 use Rattle.book_law.proofs.Effects.{Fitted}
 use Rattle.book_law.proofs.Fits.{IsAt}
@@ -134,6 +134,7 @@ module _ (gates : GateLaw) (setting : Setting) (state : State) (w : Cluster) (re
   action_back (Some (Remakes i boot given floor)) f = absurd f
   action_back (Some (Enrols i t floor)) f = absurd f
   action_back (Some (Unlocks i t)) f = absurd f
+  action_back (Some (OpensGate i t)) f = absurd f
   action_back (Some (Raises i t floor)) f = absurd f
 
 pub justifies_all : GroundLaw → GateLaw → VoteLaw → (setting : Setting) (history : List Action) → IsHistory setting history → JustifiesAll setting history (accepted_in setting history)

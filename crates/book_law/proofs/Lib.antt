@@ -8,6 +8,7 @@ pub mod Gates
 pub mod Held
 pub mod Justified
 pub mod Opened
+pub mod Operators
 pub mod Recorded
 pub mod Results
 pub mod Served

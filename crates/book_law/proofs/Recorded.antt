@@ -14,7 +14,7 @@ use Rattle.datagram_port.specs.Port.{Offered, PortEvent}
 use Rattle.datagram_port.specs.declared.port.Sender.TheVariants.{Client as ToLine, Peer as ToMember}
 use Rattle.cluster_sim.specs.Answered.{IsOk}
 use Rattle.cluster_sim.specs.World.{Answer, told_reply}
-use Rattle.book_law.specs.Lives.{Action, Opens, FailsToOpen, Takes, Offers, Stops, StopsIn, Loses, Remakes, Enrols, Unlocks, Raises, Output, Process, Sealed, Setting, State, Store, Terms, ToClient, ToPeer, Down, Up, answered_in, answers_among, can_be, do_fit, first_state, has_store, made_by_input, may_enrol, node_of_action, offers_by, outputs_of_step, process_after, process_half_opened, process_opened, sealed_from, seen_in, state_after, state_after_action, state_of, state_with, store_in_next_boot, store_under, store_with_row}
+use Rattle.book_law.specs.Lives.{Action, Opens, FailsToOpen, Takes, Offers, Stops, StopsIn, Loses, Remakes, Enrols, Unlocks, OpensGate, Raises, Output, Process, Sealed, Setting, State, Store, Terms, ToClient, ToPeer, Down, Up, answered_in, answers_among, can_be, do_fit, first_state, has_store, made_by_input, may_enrol, node_of_action, offers_by, outputs_of_step, process_after, process_half_opened, process_opened, sealed_from, seen_in, state_after, state_after_action, state_of, state_with, store_in_next_boot, store_under, store_with_row}
 use Rattle.book_law.specs.Promises.{AnswerTruly}
 use Rattle.book_law.specs.Uses.{OwnOutput, ToClientOwn, ToPeerOwn, AreAllUses, AreOffers, AreOffersOfUses, AreUses, HasUses, IsHistoryOf, IsIdle, IsProcess, IsTrueReply, IsWriting, Serves, StoreUse, TakesAndOffers, Writes, first_store, inputs_at, member_at, named_output, offer_of_output, offers_recorded, own_offers, own_process, run_of, written_store}
 use Rattle.book_law.proofs.Serving.{LeaveStore, action_at, can_there, serves, store_left}
@@ -49,6 +49,7 @@ writing_offers node (Loses at) store w = absurd w
 writing_offers node (Remakes at boot given floor) store w = absurd w
 writing_offers node (Enrols at token floor) store w = refl
 writing_offers node (Unlocks at token) store w = refl
+writing_offers node (OpensGate at token) store w = absurd w
 writing_offers node (Raises at token floor) store w = refl
 
 -- a process offers its own, and its node goes on
@@ -161,7 +162,9 @@ after_from setting e (Enrols i token floor) (Down store) h =
     cond_both (may_enrol setting token store) (Down (store_with_row token floor store)) (Down store) (λ q. WaitsFrom i q) (λ _. tt) (λ _. tt)
 after_from setting e (Enrols i token floor) (Up t below state waiting) h = h
 after_from setting e (Unlocks i token) (Down store) h = tt
+after_from setting e (OpensGate i token) (Down store) h = tt
 after_from setting e (Unlocks i token) (Up t below state waiting) h = h
+after_from setting e (OpensGate i token) (Up t below state waiting) h = h
 after_from setting e (Raises i token floor) (Down store) h = tt
 after_from setting e (Raises i token floor) (Up t below state waiting) h = h
 
@@ -177,6 +180,7 @@ by_from (Loses i) p h = tt
 by_from (Remakes i boot given floor) p h = tt
 by_from (Enrols i token floor) p h = tt
 by_from (Unlocks i token) p h = tt
+by_from (OpensGate i token) p h = tt
 by_from (Raises i token floor) p h = tt
 
 -- ---- what a node offers is offered in the history

@@ -1,6 +1,6 @@
 -- The gate of each row of a store is the gate after the token's results there, and each failure came while the token was
 -- open.
-use Rattle.std.proofs.Common.{◌≡◌, ℕ, zero, suc, ◌<◌, ◌⊎◌, ⊎_elim, Bool, true, false, not, cond, ◌&&◌, List, [], ◌∷◌, ◌++◌, length, map, Option, Some, None, refl, sym, ap, ◌∙◌, subst, arith, eqb, ltb, get_or}
+use Rattle.std.proofs.Common.{◌≡◌, ℕ, zero, suc, ◌<◌, ◌⊎◌, ⊎_elim, Bool, true, false, not, cond, ◌&&◌, List, [], ◌∷◌, ◌++◌, length, map, Option, Some, None, refl, sym, ap, ◌∙◌, subst, arith, eqb, ltb, get_or, set}
 use Rattle.std.specs.List.{slice_get}
 use Rattle.std.proofs.lemmas.Bool.{and_parts, cond_both, cond-false, cond-true, eq-eqb, false≢true}
 use Rattle.std.proofs.lemmas.List.{get_or-map, length-map}
@@ -17,13 +17,14 @@ use Rattle.vote_core.specs.Voting.{raise}
 use Rattle.vote_core.proofs.Basics.{Each, get_before, get_last}
 use Rattle.vote_core.proofs.Names.{not_eqb, same_or_not}
 use Rattle.oath_node.specs.Machine.{Made, NodeEvent, NodeState, opened_node}
+use Rattle.oath_node.specs.Unlocking.{unlocked_node}
 use Rattle.cluster_sim.proofs.BelowLaws.{GateLaw, GroundLaw, SpaceLaw}
 use Rattle.cluster_sim.proofs.VoteGates.{put_gate}
 use Rattle.cluster_sim.specs.Results.{results_with_failure, results_with_pass}
 use Rattle.seat_law.specs.Below.{Site, site_of}
 use Rattle.seat_law.specs.Seats.{seat_name}
 use Rattle.seat_law.proofs.Relation.{number_lacks, number_there, option_cases}
-use Rattle.book_law.specs.Lives.{Action, Opens, FailsToOpen, Takes, Offers, Stops, StopsIn, Loses, Remakes, Enrols, Unlocks, Raises, AreGenuine, IsGenuineAction, IsGenuineAt, IsHistory, Output, Process, Setting, State, Store, Terms, Down, Up, can_be, content_raised, content_under, content_unlocked, do_fit, first_state, has_row, has_store, made_boot, made_by_input, may_enrol, node_of_action, places_of, process_after, process_offered, process_opened, row_of, seen_in, state_after, state_after_action, state_with, store_at, store_in_next_boot, store_under, store_with_row, store_with_rows, with_process}
+use Rattle.book_law.specs.Lives.{Action, Opens, FailsToOpen, Takes, Offers, Stops, StopsIn, Loses, Remakes, Enrols, Unlocks, OpensGate, Raises, AreGenuine, IsGenuineAction, IsGenuineAt, IsHistory, Output, Process, Setting, State, Store, Terms, Down, Up, can_be, content_raised, content_under, content_unlocked, do_fit, first_state, has_row, has_store, made_boot, made_by_input, may_enrol, node_of_action, number_to_unlock, places_of, process_after, process_offered, process_opened, row_of, row_or_first, seen_in, state_after, state_after_action, state_unlocked, state_with, store_at, store_in_next_boot, store_under, store_with_row, store_with_rows, with_process}
 use Rattle.book_law.specs.Results.{results_after, results_after_action, results_by, results_in, results_of_number, results_of_step, with_results}
 use Rattle.book_law.proofs.Actions.{opened_step}
 use Rattle.book_law.proofs.Effects.{FloorsSent, HasSent}
@@ -31,7 +32,8 @@ use Rattle.book_law.proofs.Fits.{IsAt, at_stored}
 use Rattle.book_law.proofs.Floors.{FloorsSentBy, all_grow, told_may, told_of}
 use Rattle.book_law.proofs.Gates.{MadeRight, event_right}
 use Rattle.book_law.proofs.Opened.{IsOpen, IsStored, seen_size}
-use Rattle.book_law.proofs.Under.{opened_under, row_off, rows_size}
+use Rattle.book_law.proofs.Operators.{number_is_own}
+use Rattle.book_law.proofs.Under.{opened_under, row_off, rows_put, rows_size}
 use Rattle.book_law.proofs.Walk.{Holds, first_holds, first_told, follows, former, lost_up}
 
 -- the gates of a store are those after the results, and a token without a row has none
@@ -261,6 +263,31 @@ unlocked_gated law results t store one size h (Some k) is =
     (sym (law.accepted (results t)) ∙ ap gate_after (sym here)) (subst AreGated (sym here) (h.opened t))
     (λ u ne. cond-false (eqb u t) (Accepted ∷ results u) (results u) (not_eqb u t ne)) h
 
+-- the store of a process that cleared a gate is the one with the gate cleared in the token's row
+cleared_store : (x : Site) (terms : Terms) (below : Store) (node : NodeState) (h : IsOpen x terms below node) (k : ℕ) → k < length terms.seats
+    → (store_under terms.seats (unlocked_node k node).content below).content
+    ≡ content_unlocked (Some (seat_name (places_of below terms.seats) k)) (store_under terms.seats node.content below).content
+cleared_store x terms below node h k lt =
+    let places = places_of below terms.seats in
+    let place = seat_name places k in
+    let store = store_under terms.seats node.content below in
+    let put : List RowRecord → Content = λ rows. record store.content { rows = rows } in
+    let size = seen_size h in
+    let long = length-map terms.seats (λ t. row_or_first (row_of below t)) in
+    ap put (rows_put places node.content.rows below.content.rows k (row_with_gate clear_gate (row node.content k)) h.known.are.apart (subst (λ n. k < n) (sym long) lt) (size ∙ sym long))
+    ∙ ap (λ y. put (set store.content.rows place (row_with_gate clear_gate y))) (open_row x terms below node h k lt)
+
+opened_gated : GateLaw → (results : ℕ → List Result) (t : ℕ) (x : Site) (terms : Terms) (below : Store) (node : NodeState) → IsOpen x terms below node → IsStored x (store_under terms.seats node.content below)
+    → IsGatedAt results (store_under terms.seats node.content below) → (o : Option ℕ) → number_to_unlock terms t node ≡ o
+    → IsGatedAt (λ u. cond (is_number o && eqb u t) (Accepted ∷ results u) (results u)) (store_under terms.seats (state_unlocked o node).content below)
+opened_gated law results t x terms below node opens stored h None is = h
+opened_gated law results t x terms below node opens stored h (Some k) is =
+    let store = store_under terms.seats node.content below in
+    let there = number_there (length terms.seats) (seat_name terms.seats) t k (number_is_own terms t k node is) in
+    let found : row_of below t ≡ Some (seat_name (places_of below terms.seats) k) = ap (row_of below) (sym there.1) ∙ place_row x terms below node opens k there.0 in
+    subst (λ c. IsGatedAt (λ u. cond (eqb u t) (Accepted ∷ results u) (results u)) (record store { content = c })) (sym (cleared_store x terms below node opens k there.0))
+    (unlocked_gated law results t store (stored_one x store stored) stored.size h (Some (seat_name (places_of below terms.seats) k)) found)
+
 raised_gated : (results : ℕ → List Result) (t floor : ℕ) (store : Store) → One store → length store.names ≡ length store.content.rows → IsGatedAt results store → (o : Option ℕ) → row_of store t ≡ o
     → IsGatedAt results (record store { content = content_raised o floor store.content })
 unfolding raise
@@ -342,7 +369,11 @@ module _ (grounds : GroundLaw) (gates : GateLaw) (setting : Setting) (e : ℕ) (
   node_gated (Enrols i t floor) (Down store) results is can g f h = enrols_gated i t floor store results is h
   node_gated (Enrols i t floor) (Up terms below node waiting) results is can g f h = h
   node_gated (Unlocks i t) (Down store) results is can g f h = unlocked_gated gates results t store (stored_one (site_of holds.sites i) store (stored_now i store is)) (stored_now i store is).size h (row_of store t) refl
+  node_gated (OpensGate i t) (Down store) results is can g f h = h
   node_gated (Unlocks i t) (Up terms below node waiting) results is can g f h = h
+  node_gated (OpensGate i t) (Up terms below node waiting) results is can g f h =
+      opened_gated gates results t (site_of holds.sites i) terms below node (open_now i terms below node waiting is)
+      (subst (λ p. IsStored (site_of holds.sites i) (store_at p)) is (at_now i)) h (number_to_unlock terms t node) refl
   node_gated (Raises i t floor) (Down store) results is can g f h = raised_gated results t floor store (stored_one (site_of holds.sites i) store (stored_now i store is)) (stored_now i store is).size h (row_of store t) refl
   node_gated (Raises i t floor) (Up terms below node waiting) results is can g f h = h
 

@@ -8,7 +8,7 @@ use Rattle.oath_node.specs.Machine.{Made, NodeEvent, NodeState, Reply}
 use Rattle.oath_node.specs.Outputs.{items_of, outputs_of}
 use Rattle.oath_node.specs.Turns.{Member, Run, offer_of, run_at, run_with_event, run_with_events}
 use Rattle.cluster_sim.specs.World.{Answer, told_reply}
-use Rattle.book_law.specs.Lives.{Action, Opens, FailsToOpen, Takes, Offers, Stops, StopsIn, Loses, Remakes, Enrols, Unlocks, Raises, Output, Process, Sealed, Setting, State, Store, Terms, ToClient, ToPeer, Up, can_be, has_store, lost_after, made_by_input, node_of_action, offers_by, outputs_of_step, place_in, process_after, sealed_from, state_after, state_after_action, state_with}
+use Rattle.book_law.specs.Lives.{Action, Opens, FailsToOpen, Takes, Offers, Stops, StopsIn, Loses, Remakes, Enrols, Unlocks, OpensGate, Raises, Output, Process, Sealed, Setting, State, Store, Terms, ToClient, ToPeer, Up, can_be, has_store, lost_after, made_by_input, node_of_action, offers_by, outputs_of_step, place_in, process_after, sealed_from, state_after, state_after_action, state_with}
 use Rattle.book_law.specs.Uses.{OwnOutput, ToClientOwn, ToPeerOwn, offer_of_output, AreServing, IsServing, input_of, inputs_at, member_at, named_output, own_offers, own_process}
 
 -- ---- the state of a history has the node's own process
@@ -51,6 +51,7 @@ can_there setting state node (Stops i) store leaves own = subst (λ m. has_store
 can_there setting state node (StopsIn i kept input) store leaves own = subst (λ m. has_store setting state m ≡ true) own store
 can_there setting state node (Enrols i token floor) store leaves own = subst (λ m. has_store setting state m ≡ true) own store
 can_there setting state node (Unlocks i token) store leaves own = subst (λ m. has_store setting state m ≡ true) own store
+can_there setting state node (OpensGate i token) store leaves own = subst (λ m. has_store setting state m ≡ true) own store
 can_there setting state node (Raises i token floor) store leaves own = subst (λ m. has_store setting state m ≡ true) own store
 can_there setting state node (Loses i) store leaves own = absurd (leaves own)
 can_there setting state node (Remakes i boot given floor) store leaves own = absurd (leaves own)
@@ -64,6 +65,7 @@ lost_left node (Stops i) lost leaves = refl
 lost_left node (StopsIn i kept input) lost leaves = refl
 lost_left node (Enrols i token floor) lost leaves = refl
 lost_left node (Unlocks i token) lost leaves = refl
+lost_left node (OpensGate i token) lost leaves = refl
 lost_left node (Raises i token floor) lost leaves = refl
 lost_left node (Loses i) lost leaves = ap (λ b. b || lost node) (ne_eqb node i leaves)
 lost_left node (Remakes i boot given floor) lost leaves = ap (λ b. not b && lost node) (ne_eqb node i leaves)
@@ -177,6 +179,7 @@ module _ (setting : Setting) (node : ℕ) (terms : Terms) (port : List ℕ) (bel
   action_then e (Remakes at boot given floor) ds s waiting done r q g rest state entries = absurd (g q)
   action_then e (Enrols at token floor) ds s waiting done r q g rest state entries = absurd (g q)
   action_then e (Unlocks at token) ds s waiting done r q g rest state entries = absurd (g q)
+  action_then e (OpensGate at token) ds s waiting done r q g rest state entries = absurd (g q)
   action_then e (Raises at token floor) ds s waiting done r q g rest state entries = absurd (g q)
 
   either_then : (e : ℕ) (d : Action) (ds : List Action) (s : NodeState) (waiting done : List OwnOutput) (r : Run) (b : Bool) → (b ≡ true → node ≡ node_of_action d) → IsServing node d → RestGoes e ds → r.node ≡ s → r.entries ≡ map (offer_of_output port) (done ++ waiting)

@@ -22,7 +22,7 @@ use Rattle.cluster_sim.proofs.Owners.{get_more}
 use Rattle.cluster_sim.proofs.Reports.{begun_elsewhere}
 use Rattle.seat_law.specs.Seats.{seat_name}
 use Rattle.cluster_sim.proofs.Tells.{Backed, BeganAt, Comes, NodeKept, Said, Tells, ToldBacked, answers_later, event_tells, named, owners_later, resting_tells}
-use Rattle.book_law.specs.Lives.{Action, Opens, FailsToOpen, Takes, Offers, Stops, StopsIn, Loses, Remakes, Enrols, Unlocks, Raises, Output, Process, Sealed, Setting, State, Store, Terms, ToClient, ToPeer, Down, Up, answered_in, answers_among, can_be, do_fit, first_state, made_by_input, may_enrol, named_beginning, node_of_action, note_of_step, outputs_of_step, place_in, process_opened, sealed_from, seen_in, state_after, state_after_action, state_of, state_with, store_in_next_boot, store_with_row, with_process}
+use Rattle.book_law.specs.Lives.{Action, Opens, FailsToOpen, Takes, Offers, Stops, StopsIn, Loses, Remakes, Enrols, Unlocks, OpensGate, Raises, Output, Process, Sealed, Setting, State, Store, Terms, ToClient, ToPeer, Down, Up, answered_in, answers_among, can_be, do_fit, first_state, made_by_input, may_enrol, named_beginning, node_of_action, note_of_step, number_to_unlock, outputs_of_step, place_in, process_opened, sealed_from, seen_in, state_after, state_after_action, state_of, state_unlocked, state_with, store_in_next_boot, store_with_row, with_process}
 use Rattle.book_law.specs.Promises.{AnswerTruly, BelongsToAcceptance, IsAskedInAction, IsSaidInAction}
 use Rattle.book_law.proofs.Fits.{set_at}
 
@@ -66,6 +66,7 @@ asked_back node client line nonce (Some (Loses i)) h = absurd h
 asked_back node client line nonce (Some (Remakes i boot given floor)) h = absurd h
 asked_back node client line nonce (Some (Enrols i t floor)) h = absurd h
 asked_back node client line nonce (Some (Unlocks i t)) h = absurd h
+asked_back node client line nonce (Some (OpensGate i t)) h = absurd h
 asked_back node client line nonce (Some (Raises i t floor)) h = absurd h
 
 takes_said : (node client : ℕ) (line : List ℕ) (i : ℕ) (input : NodeEvent) → IsSaidIn node client line (Some (line_taken i input)) → IsSaidInAction node client line (Some (Takes i input))
@@ -91,6 +92,7 @@ said_back node client line (Some (Loses i)) h = absurd h
 said_back node client line (Some (Remakes i boot given floor)) h = absurd h
 said_back node client line (Some (Enrols i t floor)) h = absurd h
 said_back node client line (Some (Unlocks i t)) h = absurd h
+said_back node client line (Some (OpensGate i t)) h = absurd h
 said_back node client line (Some (Raises i t floor)) h = absurd h
 
 -- the line comes in its action
@@ -236,6 +238,11 @@ kept_later events e i raw new (Up terms below x waiting) g h = (
 
 -- ---- an action
 
+-- a gate is none of what is kept
+unlocked_kept : (events : List WorldEvent) (raw : List Note) (e i : ℕ) (o : Option ℕ) (x : NodeState) → NodeKept events raw e i x → NodeKept events raw e i (state_unlocked o x)
+unlocked_kept events raw e i None x h = h
+unlocked_kept events raw e i (Some k) x h = record { owners = h.owners; owned = h.owned; answers = h.answers }
+
 module _ (law : GroundLaw) (setting : Setting) (events : List WorldEvent) (e : ℕ) (state : State) (h : Honest events e state) where
   -- the claims after an action that has no note
   quiet : (i : ℕ) (p : Process) (hs : List Output) → KeptAt events h.raw (suc e) i p → Each (IsBacked events (passes_in h.raw)) hs
@@ -348,7 +355,11 @@ module _ (law : GroundLaw) (setting : Setting) (events : List WorldEvent) (e : �
       (cond_both (may_enrol setting t store) (Down (store_with_row t floor store)) (Down store) (λ p. KeptAt events h.raw (suc e) i p) (λ _. tt) (λ _. tt)) tt state.lost state.least
   at_process (Enrols i t floor) (Up own below x waiting) at k = quiet i (Up own below x waiting) [] (later i (Up own below x waiting) k) tt state.lost state.least
   at_process (Unlocks i t) (Down store) at k = quiet i (Down _) [] tt tt state.lost state.least
+  at_process (OpensGate i t) (Down store) at k = quiet i (Down store) [] tt tt state.lost state.least
   at_process (Unlocks i t) (Up own below x waiting) at k = quiet i (Up own below x waiting) [] (later i (Up own below x waiting) k) tt state.lost state.least
+  at_process (OpensGate i t) (Up own below x waiting) at k =
+      let x' = state_unlocked (number_to_unlock own t x) x in
+      quiet i (Up own below x' waiting) [] (later i (Up own below x' waiting) (unlocked_kept events h.raw e i (number_to_unlock own t x) x k.0, k.1)) tt state.lost state.least
   at_process (Raises i t floor) (Down store) at k = quiet i (Down _) [] tt tt state.lost state.least
   at_process (Raises i t floor) (Up own below x waiting) at k = quiet i (Up own below x waiting) [] (later i (Up own below x waiting) k) tt state.lost state.least
 

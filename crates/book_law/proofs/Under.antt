@@ -4,7 +4,7 @@ use Rattle.std.specs.Prelude.{option_map}
 use Rattle.std.specs.List.{list_all, position_or_len, slice_get}
 use Rattle.std.specs.Option.{option_and_then, option_or}
 use Rattle.std.proofs.lemmas.Bool.{and_parts, cond_both, eqb-true, ltb-true, false≢true}
-use Rattle.std.proofs.lemmas.List.{get_or-set_other, get_or-set_same, length-set, set-get_or}
+use Rattle.std.proofs.lemmas.List.{get_or-set_other, get_or-set_same, length-set, set-get_or, set-set, set_comm}
 use Rattle.std.proofs.lemmas.List.Sums.{passes_at_first}
 use Rattle.std.proofs.lemmas.Option.{get_or_from_slice_get, none-some, same_Some, slice_get-get_or, slice_get-map, slice_get_within}
 use Rattle.floor_store.specs.Content.{Content, opening_row, with_next_boot}
@@ -56,6 +56,20 @@ rows_seen (p ∷ places) (x ∷ seen) below apart within same =
     (map_same (row_at (set rest p x)) (row_at rest) places
     (λ m k at. get_or-set_other rest p k x (opening_row 0) (λ e. let z = apart 0 (suc m) p refl (at ∙ ap Some e) in omega (arith, z)))
     ∙ rows_seen places seen below (rest_apart p places apart) (λ m k at. within (suc m) k at) (omega (arith, same)))
+
+-- a seen row that is written is written at its place
+pub rows_put : (places : List ℕ) (seen below : List RowRecord) (m : ℕ) (y : RowRecord) → Apart places → m < length places → length seen ≡ length places
+    → rows_under places (set seen m y) below ≡ set (rows_under places seen below) (get_or places m 0) y
+rows_put [] seen below m y apart lt same = absurd (omega (arith, lt))
+rows_put (p ∷ places) [] below m y apart lt same = absurd (omega (arith, same))
+rows_put (p ∷ places) (x ∷ seen) below zero y apart lt same = sym (set-set (rows_under places seen below) p x y)
+rows_put (p ∷ places) (x ∷ seen) below (suc m) y apart lt same =
+    let rest = rows_under places seen below in
+    let k = get_or places m 0 in
+    let low : m < length places = omega (arith, lt) in
+    let there = slice_get-get_or places m 0 low in
+    ap (λ l. set l p x) (rows_put places seen below m y (rest_apart p places apart) low (omega (arith, same)))
+    ∙ set_comm rest k p y x (λ e. let z = apart 0 (suc m) p refl (there ∙ ap Some e) in omega (arith, z))
 
 -- the rows that are seen, put back, change nothing
 rows_back : (places : List ℕ) (below : List RowRecord) → rows_under places (seated_rows places below) below ≡ below

@@ -7,7 +7,7 @@ use Rattle.vote_core.specs.Schedule.{is_member, last_boot}
 use Rattle.oath_node.specs.Machine.{NodeEvent, NodeState, opened_node}
 use Rattle.oath_node.specs.Turns.{offers_in, run_at, run_with_events}
 use Rattle.datagram_port.specs.Port.{PortEvent}
-use Rattle.book_law.specs.Lives.{Action, Opens, FailsToOpen, Takes, Offers, Stops, StopsIn, Loses, Remakes, Enrols, Unlocks, Raises, Process, Setting, Store, Terms, Down, Up, do_fit, first_state, may_enrol, node_of_action, offers_by, process_after, process_opened, seen_in, state_of, store_at, store_in_next_boot, store_under, store_with_row}
+use Rattle.book_law.specs.Lives.{Action, Opens, FailsToOpen, Takes, Offers, Stops, StopsIn, Loses, Remakes, Enrols, Unlocks, OpensGate, Raises, Process, Setting, Store, Terms, Down, Up, do_fit, first_state, may_enrol, node_of_action, offers_by, process_after, process_opened, seen_in, state_of, store_at, store_in_next_boot, store_under, store_with_row}
 use Rattle.book_law.specs.Uses.{OwnOutput, offer_of_output, AreAllUses, AreOffers, AreServing, AreUses, HasHistory, HasUses, IsHistoryOf, IsIdle, IsProcess, IsServing, IsWriting, Serves, StoreUse, TakesAndOffers, Writes, first_store, inputs_at, member_at, named_output, own_offers, own_process, run_of, store_after, written_store}
 use Rattle.book_law.proofs.Serving.{LeaveStore, LeavesStore, process_is_own, serves}
 
@@ -99,6 +99,7 @@ written_is setting node e (Loses at) store w = absurd w
 written_is setting node e (Remakes at boot given floor) store w = absurd w
 written_is setting node e (Enrols at token floor) store w = cond_down (may_enrol setting token store) (store_with_row token floor store) store
 written_is setting node e (Unlocks at token) store w = refl
+written_is setting node e (OpensGate at token) store w = absurd w
 written_is setting node e (Raises at token floor) store w = refl
 
 pub writing_node : (node : ℕ) (d : Action) → IsWriting node d → node_of_action d ≡ node
@@ -112,6 +113,7 @@ writing_node node (Loses at) w = absurd w
 writing_node node (Remakes at boot given floor) w = absurd w
 writing_node node (Enrols at token floor) w = w
 writing_node node (Unlocks at token) w = w
+writing_node node (OpensGate at token) w = absurd w
 writing_node node (Raises at token floor) w = w
 
 uses_end : (setting : Setting) (node e : ℕ) (uses : List StoreUse) (store : Store) (actions : List Action) → AreUses setting node store uses → HasUses setting node store uses actions
@@ -143,6 +145,7 @@ idle_leaves node (Loses at) idle = idle
 idle_leaves node (Remakes at boot given floor) idle = idle
 idle_leaves node (Enrols at token floor) idle = tt
 idle_leaves node (Unlocks at token) idle = tt
+idle_leaves node (OpensGate at token) idle = tt
 idle_leaves node (Raises at token floor) idle = tt
 
 serving_leaves : (node : ℕ) (d : Action) → IsServing node d → LeavesStore node d
@@ -156,6 +159,7 @@ serving_leaves node (Loses at) serving = serving
 serving_leaves node (Remakes at boot given floor) serving = serving
 serving_leaves node (Enrols at token floor) serving = tt
 serving_leaves node (Unlocks at token) serving = tt
+serving_leaves node (OpensGate at token) serving = tt
 serving_leaves node (Raises at token floor) serving = tt
 
 writing_leaves : (node : ℕ) (d : Action) → IsWriting node d → LeavesStore node d
@@ -169,6 +173,7 @@ writing_leaves node (Loses at) w = absurd w
 writing_leaves node (Remakes at boot given floor) w = absurd w
 writing_leaves node (Enrols at token floor) w = tt
 writing_leaves node (Unlocks at token) w = tt
+writing_leaves node (OpensGate at token) w = tt
 writing_leaves node (Raises at token floor) w = tt
 
 all_idle : (node : ℕ) (ds : List Action) → IsIdle node ds → LeaveStore node ds

@@ -23,13 +23,14 @@ use Rattle.cluster_sim.specs.World.{passes_in}
 use Rattle.seat_law.specs.Below.{site_of}
 use Rattle.seat_law.specs.Seats.{Sites, blank_sites}
 use Rattle.seat_law.proofs.Relation.{Sim, free_same, fresh_named}
-use Rattle.book_law.specs.Lives.{Action, Opens, FailsToOpen, Takes, Offers, Stops, StopsIn, Loses, Remakes, Enrols, Unlocks, Raises, AreGenuine, IsGenuineAction, IsGenuineAt, IsHistory, Output, Process, Sealed, Setting, State, Store, Terms, ToPeer, Down, Up, accepted_in, can_be, content_raised, content_unlocked, do_fit, first_state, floor_in, floor_of, has_store, made_boot, may_enrol, node_of_action, process_opened, row_of, seen_in, store_raised, store_unlocked, state_after, state_after_action, state_of, state_with, store_at, store_in_next_boot, store_under, store_with_row}
+use Rattle.book_law.specs.Lives.{Action, Opens, FailsToOpen, Takes, Offers, Stops, StopsIn, Loses, Remakes, Enrols, Unlocks, OpensGate, Raises, AreGenuine, IsGenuineAction, IsGenuineAt, IsHistory, Output, Process, Sealed, Setting, State, Store, Terms, ToPeer, Down, Up, accepted_in, can_be, content_raised, content_unlocked, do_fit, first_state, floor_in, floor_of, has_store, made_boot, may_enrol, node_of_action, number_to_unlock, process_opened, row_of, seen_in, state_after, state_after_action, state_of, state_unlocked, state_with, store_at, store_in_next_boot, store_raised, store_under, store_unlocked, store_with_row}
 use Rattle.book_law.proofs.Actions.{alone, changed, cuts, half_opens, loses, opens, stays, takes}
 use Rattle.book_law.proofs.Commands.{raises, unlocks}
 use Rattle.book_law.proofs.Effects.{Fitted, HasSent, IsSent}
 use Rattle.book_law.proofs.Fits.{Fits, IsAt, Next, free_is, in_other_words, is_kept}
 use Rattle.book_law.proofs.Floors.{FloorsSentBy, all_grow, told_may, told_of, told_sent}
 use Rattle.book_law.proofs.Opened.{open_stored}
+use Rattle.book_law.proofs.Operators.{opens_gate, number_is_own}
 use Rattle.book_law.proofs.Stores.{enrols, remakes}
 
 -- the acceptance is proposed in the input of a node's process
@@ -90,6 +91,11 @@ module _ (law : GroundLaw) (setting : Setting) (e : ℕ) (state : State) (s : Si
       row_unlocked None none = only i (Down store) [] at tt
       row_unlocked (Some k) some = unlocks setting e i t store state s r sim posts fits can at.0 (at.1 kept) Q k some
 
+  opens_gate_here : (i t : ℕ) (terms : Terms) (below : Store) (node : NodeState) (waiting : List Output) → has_store setting state i ≡ true → IsAt s.seen.own.sent (state.lost i) (site_of s i) (Up terms below node waiting)
+      → (o : Option ℕ) → number_to_unlock terms t node ≡ o → Next setting e r (changed i (Up terms below (state_unlocked o node) waiting) [] state) Q
+  opens_gate_here i t terms below node waiting can at None none = only i (Up terms below node waiting) [] at tt
+  opens_gate_here i t terms below node waiting can at (Some k) some = opens_gate setting e i terms below node waiting t k state s r sim posts fits can at (number_is_own terms t k node some) Q
+
   raises_here : (i t floor : ℕ) (store : Store) → has_store setting state i ≡ true → state.lost i ≡ false → IsAt s.seen.own.sent (state.lost i) (site_of s i) (Down store) → (o : Option ℕ) → row_of store t ≡ o
       → Next setting e r (changed i (Down (store_raised t floor store)) [] state) Q
   unfolding raise
@@ -141,7 +147,10 @@ module _ (law : GroundLaw) (setting : Setting) (e : ℕ) (state : State) (s : Si
   at_process (Enrols i t floor) (Down store) is at can g f = enrols_here law setting e state s r sim posts fits (IsFittedIn state (Enrols i t floor)) i t floor store can (is_kept setting state i can) at
   at_process (Enrols i t floor) (Up own below node waiting) is at can g f = only law setting e state s r sim posts fits (IsFittedIn state (Enrols i t floor)) i (Up own below node waiting) [] at tt
   at_process (Unlocks i t) (Down store) is at can g f = unlocks_here law setting e state s r sim posts fits (IsFittedIn state (Unlocks i t)) i t store can (is_kept setting state i can) at (row_of store t) refl
+  at_process (OpensGate i t) (Down store) is at can g f = only law setting e state s r sim posts fits (IsFittedIn state (OpensGate i t)) i (Down store) [] at tt
   at_process (Unlocks i t) (Up own below node waiting) is at can g f = only law setting e state s r sim posts fits (IsFittedIn state (Unlocks i t)) i (Up own below node waiting) [] at tt
+  at_process (OpensGate i t) (Up own below node waiting) is at can g f =
+      opens_gate_here law setting e state s r sim posts fits (IsFittedIn state (OpensGate i t)) i t own below node waiting can at (number_to_unlock own t node) refl
   at_process (Raises i t floor) (Down store) is at can g f = raises_here law setting e state s r sim posts fits (IsFittedIn state (Raises i t floor)) i t floor store can (is_kept setting state i can) at (row_of store t) refl
   at_process (Raises i t floor) (Up own below node waiting) is at can g f = only law setting e state s r sim posts fits (IsFittedIn state (Raises i t floor)) i (Up own below node waiting) [] at tt
 

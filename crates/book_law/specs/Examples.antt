@@ -1,6 +1,6 @@
 -- Worked histories of three nodes and two users, silver and maple. Silver is canonical token 0, and maple token 1. Each
 -- has the secret of RFC 4226, Appendix D. Floor: the first free factor of a token at a node.
-use Rattle.std.specs.Prelude.{ℕ, ◌-◌, pos, Bool, true, List, [], ◌∷◌, ◌++◌, Option, Some, None, codes}
+use Rattle.std.specs.Prelude.{ℕ, ◌-◌, pos, Bool, true, false, List, [], ◌∷◌, ◌++◌, Option, Some, None, codes}
 use Rattle.floor_store.specs.Content.{Content, opening_row}
 use Rattle.floor_store.specs.Records.{PassRecord, ProposalRecord, RowRecord, span_of}
 use Rattle.token_file.specs.Credential.{Credential}
@@ -11,12 +11,12 @@ use Rattle.vote_core.specs.Schedule.{content_with_gate, last_boot}
 use Rattle.vote_core.specs.Voting.{pass_of}
 use Rattle.vote_core.specs.declared.message.Message.{Message}
 use Rattle.vote_core.specs.declared.message.Message.TheVariants.{Ask, Grant, Floor}
-use Rattle.oath_node.specs.Machine.{NodeEvent, Client, Peer}
+use Rattle.oath_node.specs.Machine.{NodeEvent, NodeState, Client, Peer, opened_node}
 use Rattle.datagram_port.specs.Port.{Offered, Quiet}
 use Rattle.datagram_port.specs.declared.port.Sender.TheVariants.{Client as ToLine}
 use Rattle.cluster_sim.specs.Examples.{config_with, told_outcome, user_named}
 use Rattle.cluster_sim.specs.World.{Answer}
-use Rattle.book_law.specs.Lives.{Action, Opens, FailsToOpen, Takes, Offers, Stops, StopsIn, Loses, Remakes, Enrols, Unlocks, Raises, Process, Sealed, Setting, Store, Terms, state_of, store_at, store_with_rows}
+use Rattle.book_law.specs.Lives.{Action, Opens, FailsToOpen, Takes, Offers, Stops, StopsIn, Loses, Remakes, Enrols, Unlocks, OpensGate, Raises, Process, Sealed, Setting, Store, Terms, state_of, store_at, store_with_rows}
 use Rattle.book_law.specs.Uses.{Serves as ServesStore, StoreUse, Writes}
 
 -- a user with an event token
@@ -222,6 +222,22 @@ fails_twice =
     Enrols 1 0 0 ∷ Enrols 1 1 0 ∷ Opens 1 silver_first ∷ Takes 1 (wrong_at 100) ∷ Stops 1 ∷ Opens 1 maple_first
     ∷ Takes 1 (wrong_at 105) ∷ Stops 1 ∷ []
 
+-- A process whose number for silver is 1 takes a wrong code of hers. Her floor is 4.
+abbrev pub fails_there : List Action
+fails_there = Enrols 1 0 4 ∷ Enrols 1 1 0 ∷ Opens 1 maple_first ∷ Takes 1 (wrong_at 100) ∷ []
+
+-- the same process without the wrong code
+abbrev pub no_failure_there : List Action
+no_failure_there = Enrols 1 0 4 ∷ Enrols 1 1 0 ∷ Opens 1 maple_first ∷ []
+
+-- the process has a seat for silver alone, and the store has maple's row too
+abbrev pub maple_aside : List Action
+maple_aside = Enrols 1 1 0 ∷ takes_silver
+
+-- a machine of one row that stopped of itself
+abbrev pub stopped_machine : NodeState
+stopped_machine = record (opened_node (one_row None)) { running = false }
+
 -- ---- Answers and grounds
 
 -- the text of silver's line
@@ -244,6 +260,12 @@ silver_ok = told_outcome 2 1 7 (codes "1") (Accepted 0)
 abbrev pub hurries : List Action
 hurries =
     has_silver ++ Opens 1 silver_alone ∷ Takes 1 (wrong_at 100)
+    ∷ Takes 1 (Client 7 104 (codes "CHECK 4 silver 755224 -")) ∷ []
+
+-- the same, and an operator unlocks silver between the two codes
+abbrev pub hurries_unlocked : List Action
+hurries_unlocked =
+    has_silver ++ Opens 1 silver_alone ∷ Takes 1 (wrong_at 100) ∷ OpensGate 1 0
     ∷ Takes 1 (Client 7 104 (codes "CHECK 4 silver 755224 -")) ∷ []
 
 -- a store whose first row has a drift

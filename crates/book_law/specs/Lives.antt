@@ -23,6 +23,7 @@ use Rattle.vote_core.specs.Voting.{raise}
 use Rattle.vote_core.specs.declared.message.Message.{Message}
 use Rattle.vote_core.specs.declared.message.Message.TheVariants.{Ask, Grant, Deny, Floor}
 use Rattle.oath_node.specs.Machine.{Beginning, Config, Made, NodeEvent, NodeState, Client, Peer, Tick, made_by_event, opened_node, token_of}
+use Rattle.oath_node.specs.Unlocking.{unlocked_node}
 use Rattle.cluster_sim.specs.World.{Answer, Note, note_anew, passes_in, told_reply}
 use Rattle.seat_law.specs.Seats.{made_floor, seat_name}
 
@@ -220,6 +221,8 @@ first_state setting = record {
 --   Nothing happens if the rule of the votes forbids it.
 --   Enrols: the store of a node without a process gets a row for a token that has none.
 --   Unlocks: a command clears the gate of a token in the store of a node without a process.
+--   OpensGate: an operator has the process of a node clear the gate of a token, between two inputs. Nothing else of its
+-- machine changes. Nothing happens if the token has no seat, or if the machine has stopped.
 --   Raises: a command raises the floor of a token in such a store to the given one, if it is lower.
 pub data Action : Type 0 where
   Opens : (node : ℕ) (terms : Terms) → Action
@@ -232,6 +235,7 @@ pub data Action : Type 0 where
   Remakes : (node boot : ℕ) (given : List ℕ) (floor : ℕ → ℕ) → Action
   Enrols : (node token floor : ℕ) → Action
   Unlocks : (node token : ℕ) → Action
+  OpensGate : (node token : ℕ) → Action
   Raises : (node token floor : ℕ) → Action
 
 -- the node of an action
@@ -246,6 +250,7 @@ node_of_action (Loses node) = node
 node_of_action (Remakes node boot given floor) = node
 node_of_action (Enrols node token floor) = node
 node_of_action (Unlocks node token) = node
+node_of_action (OpensGate node token) = node
 node_of_action (Raises node token floor) = node
 
 -- The terms fit the store. There is a seat for each row of the book, no two seats have the same token, and the store
@@ -298,6 +303,16 @@ abbrev pub process_enrolled : Setting → ℕ → ℕ → Store → Process
 process_enrolled setting token floor store =
     if may_enrol setting token store then Down (store_with_row token floor store) else Down store
 
+-- the number whose gate the process clears for the token: its own number for it, if its machine runs
+abbrev pub number_to_unlock : Terms → ℕ → NodeState → Option ℕ
+number_to_unlock terms token state =
+    if state.running then number_of (length terms.seats) (seat_name terms.seats) token else None
+
+-- the machine with the gate of a new row for the number
+abbrev pub state_unlocked : Option ℕ → NodeState → NodeState
+state_unlocked None state = state
+state_unlocked (Some number) state = unlocked_node number state
+
 -- The process of a node after the action of the given number. A node without a process takes and offers nothing: inputs
 -- there are lost. A node with a process doesn't open a second one, and its store takes no commands.
 abbrev pub process_after : Setting → ℕ → Action → Process → Process
@@ -314,6 +329,8 @@ process_after setting event (Loses node) process = Down (store_in_next_boot (sto
 process_after setting event (Remakes node boot given floor) (Down store) = Down (store_with_rows boot given floor)
 process_after setting event (Enrols node token floor) (Down store) = process_enrolled setting token floor store
 process_after setting event (Unlocks node token) (Down store) = Down (store_unlocked token store)
+process_after setting event (OpensGate node token) (Up terms below state waiting) =
+    Up terms below (state_unlocked (number_to_unlock terms token state) state) waiting
 process_after setting event (Raises node token floor) (Down store) = Down (store_raised token floor store)
 process_after setting event action process = process
 
@@ -469,13 +486,14 @@ pub record IsHistory (setting : Setting) (history : List Action) : Type 0 where
       (blank_opening (made_boot setting) (map (λ (sealed : Sealed). sealed.envelope) setting.old))
   pub genuine : AreGenuine setting 0 history (first_state setting)
 
--- the action is not a command's write to a row
+-- the action is neither a command's write to a row nor an operator's
 abbrev pub LeavesRows : Action → Type 0
 LeavesRows (Unlocks node token) = ⊥
+LeavesRows (OpensGate node token) = ⊥
 LeavesRows (Raises node token floor) = ⊥
 LeavesRows action = Unit {0}
 
--- none of the actions is a command's write to a row
+-- none of the actions is such a write
 abbrev pub LeaveRows : List Action → Type 0
 LeaveRows [] = Unit {0}
 LeaveRows (action ∷ actions) = LeavesRows action × LeaveRows actions

@@ -2,11 +2,11 @@
 -- The processes may have any numbers for the token, and any books and limits.
 use Rattle.std.specs.Prelude.{ℕ, suc, ◌==◌, true, ◌&&◌, if◌then◌else◌, List, [], ◌∷◌, length, Option, Some, None}
 use Rattle.admit_core.specs.Throttle.{Accepted, Result}
-use Rattle.vote_core.specs.Books.{number_of}
-use Rattle.oath_node.specs.Machine.{Made}
+use Rattle.vote_core.specs.Books.{is_number, number_of}
+use Rattle.oath_node.specs.Machine.{Made, NodeState}
 use Rattle.cluster_sim.specs.Results.{results_with_failure, results_with_pass}
 use Rattle.seat_law.specs.Seats.{seat_name}
-use Rattle.book_law.specs.Lives.{Action, Takes, StopsIn, Remakes, Unlocks, Process, Setting, State, Store, Terms, Down, Up, can_be, first_state, has_row, made_by_input, node_of_action, state_after_action}
+use Rattle.book_law.specs.Lives.{Action, Takes, StopsIn, Remakes, Unlocks, OpensGate, Process, Setting, State, Store, Terms, Down, Up, can_be, first_state, has_row, made_by_input, node_of_action, number_to_unlock, state_after_action}
 
 -- the results of a token after a step, by the number that the process has for it; without a number they stay
 abbrev pub results_of_number : Option ℕ → Made → List Result → List Result
@@ -24,6 +24,13 @@ abbrev pub results_unlocked : ℕ → Store → (ℕ → List Result) → ℕ �
 results_unlocked unlocked store results token =
     if has_row store unlocked && (token == unlocked) then Accepted ∷ results token else results token
 
+-- The results after an operator had a process clear the gate of a token. It ends the count of failures in the same way.
+abbrev pub results_opened : Terms → NodeState → ℕ → (ℕ → List Result) → ℕ → List Result
+results_opened terms state opened results token =
+    if is_number (number_to_unlock terms opened state) && (token == opened)
+    then Accepted ∷ results token
+    else results token
+
 -- the results of each token at the node of the action; a replacement store has none
 abbrev pub results_by : Setting → Action → Process → (ℕ → List Result) → ℕ → List Result
 results_by setting (Takes node input) (Up terms below state waiting) results =
@@ -32,6 +39,8 @@ results_by setting (StopsIn node true input) (Up terms below state waiting) resu
     results_of_step terms (made_by_input setting terms node input state) results
 results_by setting (Remakes node boot given floor) process results = λ token. []
 results_by setting (Unlocks node token) (Down store) results = results_unlocked token store results
+results_by setting (OpensGate node token) (Up terms below state waiting) results =
+    results_opened terms state token results
 results_by setting action process results = results
 
 -- the results by node, with others at one node

@@ -124,13 +124,14 @@ own_offers setting node first (action ∷ actions) process =
     ++ own_offers setting node (suc first) actions
     (if node == node_of_action action then process_after setting first action process else process)
 
--- the action, if it is the node's, is one of a process that continues
+-- The action, if it is the node's, is an input or an offer of a process that continues. A gate that the process clears
+-- for an operator is neither.
 abbrev pub IsServing : ℕ → Action → Type 0
 IsServing node (Takes at input) = Unit {0}
 IsServing node (Offers at) = Unit {0}
 IsServing node action = node ≡ node_of_action action → ⊥
 
--- all of the node's actions are ones of a process that continues
+-- all of the node's actions are inputs and offers of a process that continues
 abbrev pub AreServing : ℕ → List Action → Type 0
 AreServing node [] = Unit {0}
 AreServing node (action ∷ actions) = IsServing node action × AreServing node actions

@@ -1,7 +1,7 @@
 //! The laws about every history of nodes whose users files, settings and keys change. Floor: the first free factor of a
 //! token at a node.
 
-ghost use Rattle.std.specs.Prelude.{◌≡◌, ◌-◌, ℕ, suc, pos, [], ◌∷◌, ◌++◌, List, false, true, map, Option, Some, None, Result, codes, slice_get};
+ghost use Rattle.std.specs.Prelude.{◌≡◌, ◌-◌, ℕ, suc, pos, [], ◌∷◌, ◌++◌, List, false, true, map, Option, Some, None, Result, Ok, ◌⊎◌, codes, slice_get};
 ghost use Rattle.admit_core.specs.Throttle.{Accepted as Passed, Failed, SpacesFailures};
 ghost use Rattle.client_lines.specs.declared.answer.Outcome.TheVariants.{Accepted, Refused};
 ghost use Rattle.client_lines.specs.declared.answer.Reason.TheVariants.{Invalid, Unknown};
@@ -11,11 +11,14 @@ ghost use Rattle.cluster_sim.specs.World.{Answer};
 ghost use Rattle.datagram_port.specs.Port.{Offered, PortEvent};
 ghost use Rattle.datagram_port.specs.declared.port.Sender.TheVariants.{Client as ToLine};
 ghost use Rattle.floor_store.specs.Content.{Content};
+ghost use Rattle.floor_store.specs.Held.{IsSettled};
 ghost use Rattle.floor_store.specs.Range.{IsCount};
 ghost use Rattle.oath_node.specs.Calls.{IsOpened};
-ghost use Rattle.oath_node.specs.Hosted.{Hosted};
+ghost use Rattle.oath_node.specs.Hosted.{Hosted, state_of as machine_of};
 ghost use Rattle.oath_node.specs.Machine.{NodeEvent, Tick, opened_node};
 ghost use Rattle.oath_node.specs.TurnServing.{Serves as ServesTurns};
+ghost use Rattle.oath_node.specs.Unlocking.{UnlocksNode};
+ghost use Rattle.oath_node.specs.declared.fault.NodeFault.{NodeFault};
 ghost use Rattle.oath_node.specs.declared.serve_fault.ServeFault.{ServeFault};
 ghost use Rattle.oath_node.specs.declared.turns.Served.{Served};
 ghost use Rattle.seated_store.specs.Seated.{SeatedRecord, seated_held};
@@ -25,10 +28,10 @@ ghost use Rattle.vote_core.specs.declared.message.Message.TheVariants.{Floor};
 ghost use Rattle.vote_core.specs.Safety.{HaveMajority};
 ghost use Rattle.vote_core.specs.Schedule.{is_member, last_boot};
 ghost use Rattle.book_law.specs.Broken.{ask_comes, ask_comes_early, equal_seats, forged, forged_denial, forged_in_a_stop, from_another, locks_out, no_row, old_grant, taken, taken_from, taken_later, takes_again, takes_and_enrols, takes_both, tells, tells_in_a_stop, tells_less, to_nobody, two_rows_of_silver, unknown_number};
-ghost use Rattle.book_law.specs.Examples.{alone, among_another, answers_silver, ask_for, drifted, hurries, idle_among_another, idle_use, old_floor, second_reply, silver_ok, silver_pass, silver_row, silver_text, three_uses, two_replies, two_writes, ends_in_the_step, fails_twice, first_key, has_silver, late, loses_one, maple, maple_accepted, maple_alone, maple_first, old_floor_comes, one_row, other_key, pass_at, process_of_1, remade_with, row_from, shut_rows, silver, silver_accepted, silver_alone, silver_first, silver_goes, silver_line, silver_returns, store_of_1, takes_silver, tells_early, tells_held, terms_of, three, three_with_old, two_rows, under_another_key};
+ghost use Rattle.book_law.specs.Examples.{alone, among_another, answers_silver, ask_for, drifted, hurries, hurries_unlocked, idle_among_another, idle_use, old_floor, second_reply, silver_ok, silver_pass, silver_row, silver_text, three_uses, two_replies, two_writes, ends_in_the_step, fails_there, fails_twice, first_key, has_silver, late, loses_one, maple, maple_accepted, maple_alone, maple_aside, maple_first, no_failure_there, old_floor_comes, one_row, other_key, pass_at, process_of_1, remade_with, row_from, shut_rows, silver, silver_accepted, silver_alone, silver_first, silver_goes, silver_line, silver_returns, stopped_machine, store_of_1, takes_silver, tells_early, tells_held, terms_of, three, three_with_old, two_rows, under_another_key};
 ghost use Rattle.book_law.specs.Floors.{IsTakenInAction, TellsHeld, WasHeld, WasHeldSomewhere};
 ghost use Rattle.book_law.specs.Justified.{IsJustifiedInAction, JustifiesAll, drift_in, drift_of};
-ghost use Rattle.book_law.specs.Lives.{Action, Down, ToClient, ToPeer, Enrols, FailsToOpen, IsHistory, Loses, Offers, Opens, Raises, Remakes, Setting, Stops, StopsIn, Store, Takes, Terms, Unlocks, Up, accepted_in, answered_in, floor_in, floor_of, rows_under, seen_in, state_of, store_at, store_in_next_boot, store_raised, store_under, store_unlocked, store_with_rows};
+ghost use Rattle.book_law.specs.Lives.{Action, Down, ToClient, ToPeer, Enrols, FailsToOpen, IsHistory, Loses, Offers, Opens, Output, Raises, Remakes, Setting, Stops, StopsIn, Store, Takes, Terms, Unlocks, OpensGate, Up, accepted_in, answered_in, do_fit, floor_in, floor_of, number_to_unlock, process_after, rows_under, seen_in, state_of, store_at, store_in_next_boot, store_raised, store_under, store_unlocked, store_with_rows};
 ghost use Rattle.book_law.specs.Promises.{AnswerTruly, BelongsToAcceptance, IsAskedInAction, IsSaidInAction};
 ghost use Rattle.book_law.specs.Results.{results_in};
 ghost use Rattle.book_law.specs.Uses.{AreAllUses, AreOffersOfUses, AreServing, AreUses, HasHistory, HasUses, IsHistoryOf, IsProcess, IsSeatedMember, IsTrueReply, Serves as ServesStore, StoreUse, TakesAndOffers, ToClientOwn, ToPeerOwn, WasProcess, Writes, first_store, inputs_at, named_output, offer_of_output, offers_recorded, own_offers, own_process, store_after};
@@ -88,6 +91,30 @@ pub fn served_nodes_are_processes<S: FloorStore>()
         → ServesTurns (seated_held S.held) old new (Some []) (Some entries) asked told turns result
         → (seated_held S.held new.store).is_clean → (seated_held S.held new.store).leaves content
         → WasProcess setting place terms port found entries content }
+{}
+
+/// Unlockings: over any store, `Node::open_gate` at a node over a seated store is an action of its process.
+///
+/// `A` is the type of what the call returns after a success.
+pub fn opened_gates_are_actions<S: FloorStore, A>()
+    ensures opened { (setting : Setting) (event place : ℕ) (terms : Terms) (found : Store) (waiting : List Output)
+        (old new : Hosted (SeatedRecord S)) (number token : ℕ) (value : A) → do_fit terms found ≡ true
+        → slice_get terms.seats number ≡ Some token → UnlocksNode (seated_held S.held) old new number (Ok value)
+        → (seated_held S.held new.store).is_clean
+        → process_after setting event (OpensGate place token)
+        (Up terms found (machine_of (seated_held S.held) old) waiting)
+        ≡ Up terms found (machine_of (seated_held S.held) new) waiting }
+    // If the call fails, or a stop cuts it off, the store has what it had, or the action's content.
+    ensures cut { (setting : Setting) (event place : ℕ) (terms : Terms) (found : Store) (waiting : List Output)
+        (old new : Hosted (SeatedRecord S)) (number token : ℕ) (result : Result A NodeFault)
+        (content : Content)
+        → do_fit terms found ≡ true → slice_get terms.seats number ≡ Some token
+        → IsSettled (seated_held S.held old.store) → UnlocksNode (seated_held S.held) old new number result
+        → (seated_held S.held new.store).is_clean → (seated_held S.held new.store).leaves content
+        → (content ≡ (seated_held S.held old.store).content)
+        ⊎ (process_after setting event (OpensGate place token)
+        (Up terms found (machine_of (seated_held S.held) old) waiting)
+        ≡ Up terms found (record (machine_of (seated_held S.held) old) { content = content }) waiting) }
 {}
 
 /// One history: the processes and commands of all nodes, each on what the one before it left, have a history.
@@ -207,6 +234,21 @@ pub fn books_are_worked()
     ensures enrols_again { store_of_1 (has_silver ++ Enrols 1 0 5 ∷ []) ≡ store_of_1 has_silver }
     ensures enrols_unknown { store_of_1 (has_silver ++ Enrols 1 2 5 ∷ []) ≡ store_of_1 has_silver }
 
+    // An operator unlocks a token at a process. The store has no failure then, and its floor stays.
+    ensures opens_gate { store_of_1 (fails_there ++ OpensGate 1 0 ∷ Stops 1 ∷ [])
+        ≡ store_of_1 (no_failure_there ++ Stops 1 ∷ []) }
+    ensures opens_gate_as_a_command_does { store_of_1 (fails_there ++ OpensGate 1 0 ∷ Stops 1 ∷ [])
+        ≡ store_of_1 (fails_there ++ Stops 1 ∷ Unlocks 1 0 ∷ []) }
+    ensures opens_an_open_gate { process_of_1 (takes_silver ++ OpensGate 1 0 ∷ []) ≡ process_of_1 takes_silver }
+    ensures opens_gate_of_another { store_of_1 (fails_there ++ OpensGate 1 1 ∷ []) ≡ store_of_1 fails_there }
+    ensures opens_gate_and_takes { accepted_in alone hurries_unlocked ≡ accepted 4 4 1 0 0 0 ∷ [] }
+    ensures opens_gate_and_offers { answered_in alone (takes_silver ++ OpensGate 1 0 ∷ Offers 1 ∷ []) ≡ silver_ok ∷ [] }
+    ensures floor_after_opens_gate { floor_of (store_of_1 (fails_there ++ OpensGate 1 0 ∷ [])) 0 ≡ 4 }
+    ensures opens_gate_without_a_seat { process_of_1 (maple_aside ++ OpensGate 1 1 ∷ []) ≡ process_of_1 maple_aside }
+    ensures opens_gate_without_a_process { process_of_1 (fails_twice ++ OpensGate 1 0 ∷ [])
+        ≡ process_of_1 fails_twice }
+    ensures opens_no_gate_of_a_stopped_machine { number_to_unlock silver_alone 0 stopped_machine ≡ None }
+
     // A lost node, and its replacement store.
     ensures lost { (state_of three loses_one).processes 1
         ≡ Down (store_in_next_boot (store_at ((state_of three silver_accepted).processes 1))) }
@@ -239,6 +281,13 @@ pub fn books_are_worked()
         ≡ Failed 105 ∷ Failed 100 ∷ [] }
     ensures unlocking_without_a_row { results_in alone (has_silver ++ Unlocks 1 1 ∷ []) 1 1 ≡ [] }
     ensures unlocking_of_a_served_store { results_in alone (takes_silver ++ Unlocks 1 0 ∷ []) 1 0 ≡ Passed ∷ [] }
+    ensures unlocking_of_a_process { results_in alone (fails_there ++ OpensGate 1 0 ∷ []) 1 0
+        ≡ Passed ∷ Failed 100 ∷ [] }
+    ensures unlocking_of_another_at_a_process { results_in alone (fails_there ++ OpensGate 1 1 ∷ []) 1 0
+        ≡ Failed 100 ∷ [] }
+    ensures unlocking_without_a_seat { results_in alone (maple_aside ++ OpensGate 1 1 ∷ []) 1 1 ≡ [] }
+    ensures unlocking_without_a_process { results_in alone (fails_twice ++ OpensGate 1 0 ∷ []) 1 0
+        ≡ Failed 105 ∷ Failed 100 ∷ [] }
     ensures results_of_a_lost_store { results_in three loses_one 1 0 ≡ Passed ∷ [] }
     ensures results_of_a_replacement { results_in three (remade_with 2 (0 ∷ []) 1) 1 0 ≡ [] }
     ensures results_of_no_member { results_in alone (Unlocks 0 0 ∷ []) 0 0 ≡ [] }
@@ -387,6 +436,7 @@ pub fn uses_are_worked()
 pub fn uses_can_be_broken()
     ensures row_elsewhere { AreUses alone 1 silver_row (Writes (Enrols 2 0 0) ∷ []) → ⊥ }
     ensures unlocked_elsewhere { AreUses alone 1 silver_row (Writes (Unlocks 2 0) ∷ []) → ⊥ }
+    ensures opened_gate_is_a_use { AreUses alone 1 silver_row (Writes (OpensGate 1 0) ∷ []) → ⊥ }
     ensures raised_elsewhere { AreUses alone 1 silver_row (Writes (Raises 2 0 0) ∷ []) → ⊥ }
     ensures failed_elsewhere { AreUses alone 1 silver_row (Writes (FailsToOpen 2 true) ∷ []) → ⊥ }
     ensures loss_is_a_use { AreUses alone 1 silver_row (Writes (Loses 1) ∷ []) → ⊥ }
@@ -409,6 +459,7 @@ pub fn uses_can_be_broken()
     ensures reply_unrecorded { AreOffersOfUses [] (ToClient silver_ok ∷ []) → ⊥ }
     ensures second_reply_is_missing { AreOffersOfUses two_replies (ToClient silver_ok ∷ []) → ⊥ }
     ensures stop_serves { AreServing 1 (Stops 1 ∷ []) → ⊥ }
+    ensures opened_gate_serves { AreServing 1 (Offers 1 ∷ OpensGate 1 0 ∷ []) → ⊥ }
     ensures second_opening_serves { AreServing 1 (Offers 1 ∷ Opens 1 silver_alone ∷ []) → ⊥ }
     ensures one_action_more { HasUses alone 1 silver_row [] (Offers 2 ∷ Offers 1 ∷ []) → ⊥ }
     ensures second_use_is_missing { HasUses alone 1 silver_row (Writes (Unlocks 1 0) ∷ Writes (Unlocks 1 1) ∷ [])

@@ -6,7 +6,7 @@ use Rattle.datagram_port.specs.Port.{Grows, PortEvent, event_of_receive}
 use Rattle.datagram_port.specs.declared.port.Received.{Received as Receive}
 use Rattle.datagram_port.specs.declared.port.Received.TheVariants.{Datagram, Quiet as QuietReceive, Fault}
 use Rattle.bundle_port.specs.Bundler.{BundlerRecord, after_flush, flush_offers, new_bundler}
-use Rattle.bundle_port.specs.Runs.{Call, Waits, Polls, IsAfter, may_call, may_make, after, after_calls, below, below_events, handed, handed_events}
+use Rattle.bundle_port.specs.Runs.{Call, Flush, Waits, Polls, IsAfter, may_call, may_make, after, after_calls, below, below_events, handed, handed_events}
 use Rattle.bundle_port.proofs.OfferLemmas.{grown, grows_both}
 
 abbrev present : {A : Type 0} → A → Option A
@@ -18,9 +18,11 @@ pub after_more : (b : BundlerRecord) (calls : List Call) (call : Call) → after
 after_more b [] call = refl
 after_more b (one ∷ calls) call = after_more (after b one) calls call
 
-handed_more : (b : BundlerRecord) (calls : List Call) (call : Call) → handed_events b (calls ++ call ∷ []) ≡ handed_events b calls ++ handed (after_calls b calls) call ∷ []
-handed_more b [] call = refl
-handed_more b (one ∷ calls) call = ap (λ (l : List PortEvent). handed b one ∷ l) (handed_more (after b one) calls call)
+handed_more : (b : BundlerRecord) (calls : List Call) (call : Call) → handed_events b (calls ++ call ∷ []) ≡ handed_events b calls ++ handed (after_calls b calls) call
+handed_more b [] call = append-nil (handed b call)
+handed_more b (one ∷ calls) call =
+    ap (λ (l : List PortEvent). handed b one ++ l) (handed_more (after b one) calls call)
+    ∙ sym (append_assoc (handed b one) (handed_events (after b one) calls) (handed (after_calls (after b one) calls) call))
 
 below_more : (b : BundlerRecord) (calls : List Call) (call : Call) → below_events b (calls ++ call ∷ []) ≡ below_events b calls ++ below (after_calls b calls) call
 below_more b [] call = append-nil (below b call)
@@ -70,15 +72,26 @@ after_call old new b u calls more call a may noted is grows =
           ∙ sym (below_more new_bundler calls call);
     })
 
--- the events of the node's port for one more call
+-- lists of one event each
+pub only_event : {one other : PortEvent} → one ≡ other → one ∷ [] ≡ other ∷ []
+only_event e = ap (λ (x : PortEvent). x ∷ []) e
+
+-- the events of the node's port for one more call that hands in an event
 pub told_call : (below : Option (List PortEvent)) (b : BundlerRecord) (calls more : List Call) (call : Call) (event : PortEvent) → IsAfter below b calls
-    → more ≡ calls ++ call ∷ [] → event ≡ handed b call → Grows (Some (handed_events new_bundler calls)) (Some (handed_events new_bundler more)) (event ∷ [])
+    → more ≡ calls ++ call ∷ [] → event ∷ [] ≡ handed b call → Grows (Some (handed_events new_bundler calls)) (Some (handed_events new_bundler more)) (event ∷ [])
 told_call below b calls more call event a noted event_is =
     ap present
-    (ap (λ (e : PortEvent). handed_events new_bundler calls ++ e ∷ []) event_is
-    ∙ ap (λ (x : BundlerRecord). handed_events new_bundler calls ++ handed x call ∷ []) a.bundler_is
+    (ap (λ (l : List PortEvent). handed_events new_bundler calls ++ l) event_is
+    ∙ ap (λ (x : BundlerRecord). handed_events new_bundler calls ++ handed x call) a.bundler_is
     ∙ sym (handed_more new_bundler calls call)
     ∙ ap (handed_events new_bundler) (sym noted))
+
+-- a flush hands in nothing
+pub told_none : (below : Option (List PortEvent)) (b : BundlerRecord) (calls more : List Call) → IsAfter below b calls → more ≡ calls ++ Flush ∷ []
+    → present (handed_events new_bundler more) ≡ Some (handed_events new_bundler calls)
+told_none below b calls more a noted =
+    ap present
+    (ap (handed_events new_bundler) noted ∙ handed_more new_bundler calls Flush ∙ append-nil (handed_events new_bundler calls))
 
 -- ---- a receive of the port below
 

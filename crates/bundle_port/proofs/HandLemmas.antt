@@ -1,14 +1,14 @@
 -- What a port hands in over its calls.
-use Rattle.std.proofs.Common.{◌≡◌, ℕ, ◌≤◌, Bool, true, false, cond, leb, List, [], ◌∷◌, length, drop, Option, Some, None, refl, sym, ap, subst, ◌∙◌, arith, inl, inr}
+use Rattle.std.proofs.Common.{◌≡◌, ℕ, ◌≤◌, Bool, true, false, cond, leb, List, [], ◌∷◌, ◌++◌, length, drop, Option, Some, None, refl, sym, ap, subst, ◌∙◌, arith, inl, inr}
 use Rattle.std.proofs.lemmas.Bool.{and_parts, leb-true}
-use Rattle.std.specs.Prelude.{unwrap_or}
+use Rattle.std.specs.Prelude.{◌⊎◌, unwrap_or}
 use Rattle.datagram_port.specs.Port.{PortEvent, Received, Quiet, Faulted, Offered}
 use Rattle.datagram_port.specs.declared.port.Sender.{Sender}
 use Rattle.datagram_port.specs.declared.port.Sender.TheVariants.{Client, Peer}
 use Rattle.bundle_port.specs.Bundle.{parts_at}
 use Rattle.bundle_port.specs.Bundler.{BundlerRecord, LeftRecord, after_datagram, after_flush, after_offer, first_or_itself, first_part, handed_in, is_member, lanes_after, new_bundler}
 use Rattle.bundle_port.specs.Promises.{Among, Came, HandsIn, IsPartHanded}
-use Rattle.bundle_port.specs.Runs.{Call, Left, Offer, Polls, Waits, after, handed, handed_events, may_call, may_make}
+use Rattle.bundle_port.specs.Runs.{Call, Flush, Left, Offer, Polls, Waits, after, handed, handed_events, may_call, may_make}
 use Rattle.bundle_port.proofs.WaitingLemmas.{have_parts}
 
 -- ---- parts of a bundle
@@ -25,6 +25,16 @@ among_first (part ∷ parts) h = inl refl
 pub among_rest : (parts : List (List ℕ)) (part : List ℕ) → Among (drop 1 parts) part → Among parts part
 among_rest [] part h = absurd h
 among_rest (first ∷ parts) part h = inr h
+
+-- an element of two lists is in one of them
+pub among_either : {A : Type 0} (first second : List A) (one : A) → Among (first ++ second) one → Among first one ⊎ Among second one
+among_either [] second one h = inr h
+among_either (x ∷ first) second one (inl is) = inl (inl is)
+among_either (x ∷ first) second one (inr h) = go (among_either first second one h)
+  where
+    go : Among first one ⊎ Among second one → Among (x ∷ first) one ⊎ Among second one
+    go (inl a) = inl (inr a)
+    go (inr a) = inr a
 
 -- ---- parts that are left
 
@@ -52,11 +62,21 @@ hands_event all Quiet came = inl came
 hands_event all Faulted came = inl came
 hands_event all (Offered to bytes) came = inl came
 
-hands_one : (b : BundlerRecord) (all : List Call) (call : Call) → may_call b call ≡ true → Among all call → AreLeft all b.left → HandsIn all (handed b call)
-hands_one b all (Waits event) may made left = hands_event all event (inl made)
-hands_one b all (Polls event) may made left = hands_event all event (inr made)
-hands_one b all Left may made left = inr (inr (left (first_part b.left.parts) (among_first b.left.parts (leb-true 1 (length b.left.parts) may))))
-hands_one b all (Offer to bytes) may made left = inr (inl (record { to = to; bytes = bytes; event_is = refl; is_offered = made }))
+-- what holds of an event holds of the only one of a list
+only : (all : List Call) (one event : PortEvent) → HandsIn all one → Among (one ∷ []) event → HandsIn all event
+only all one event hands (inl is) = subst (HandsIn all) is hands
+only all one event hands (inr none) = absurd none
+
+hands_one : (b : BundlerRecord) (all : List Call) (call : Call) → may_call b call ≡ true → Among all call → AreLeft all b.left
+    → (event : PortEvent) → Among (handed b call) event → HandsIn all event
+hands_one b all (Waits came) may made left event h = only all (handed_in came) event (hands_event all came (inl made)) h
+hands_one b all (Polls came) may made left event h = only all (handed_in came) event (hands_event all came (inr made)) h
+hands_one b all Left may made left event h =
+    only all (Received (Peer b.left.from) (first_part b.left.parts)) event
+    (inr (inr (left (first_part b.left.parts) (among_first b.left.parts (leb-true 1 (length b.left.parts) may))))) h
+hands_one b all (Offer to bytes) may made left event h =
+    only all (Offered to bytes) event (inr (inl (record { to = to; bytes = bytes; event_is = refl; is_offered = made }))) h
+hands_one b all Flush may made left event h = absurd h
 
 -- ---- what is left after one call
 
@@ -86,17 +106,23 @@ left_one b all (Waits event) made left = left_polls (after_flush b) all event (i
 left_one b all (Polls event) made left = left_polls b all event (inr made) left
 left_one b all Left made left = λ part h. left part (among_rest b.left.parts part h)
 left_one b all (Offer to bytes) made left = subst (AreLeft all) (sym (left_offer b to bytes)) left
+left_one b all Flush made left = left
 
 -- ---- all calls
 
 hands_over : (b : BundlerRecord) (all calls : List Call) → ((call : Call) → Among calls call → Among all call) → may_make b calls ≡ true → AreLeft all b.left
     → (event : PortEvent) → Among (handed_events b calls) event → HandsIn all event
 hands_over b all [] made may left event h = absurd h
-hands_over b all (call ∷ calls) made may left event (inl is) =
-    subst (HandsIn all) is (hands_one b all call (and_parts (may_call b call) (may_make (after b call) calls) may).0 (made call (inl refl)) left)
-hands_over b all (call ∷ calls) made may left event (inr later) =
-    hands_over (after b call) all calls (λ one a. made one (inr a)) (and_parts (may_call b call) (may_make (after b call) calls) may).1
-    (left_one b all call (made call (inl refl)) left) event later
+hands_over b all (call ∷ calls) made may left event h =
+    let both = and_parts (may_call b call) (may_make (after b call) calls) may in
+    let here = made call (inl refl) in
+    go (among_either (handed b call) (handed_events (after b call) calls) event h) (hands_one b all call both.0 here left event)
+    (hands_over (after b call) all calls (λ one a. made one (inr a)) both.1 (left_one b all call here left) event)
+  where
+    go : Among (handed b call) event ⊎ Among (handed_events (after b call) calls) event → (Among (handed b call) event → HandsIn all event)
+        → (Among (handed_events (after b call) calls) event → HandsIn all event) → HandsIn all event
+    go (inl a) now later = now a
+    go (inr a) now later = later a
 
 pub hands_law : (calls : List Call) (event : PortEvent) → may_make new_bundler calls ≡ true → Among (handed_events new_bundler calls) event → HandsIn calls event
 hands_law calls event may h = hands_over new_bundler calls calls (λ call a. a) may (λ part a. absurd a) event h

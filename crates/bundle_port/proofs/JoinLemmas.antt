@@ -8,8 +8,9 @@ use Rattle.datagram_port.specs.declared.port.Sender.TheVariants.{Client, Peer}
 use Rattle.bundle_port.specs.Bundle.{bundle_bytes, is_part, parts_at}
 use Rattle.bundle_port.specs.Bundler.{BundlerRecord, LaneRecord, flush_offers, goes_at_once, has_room, is_member, lane_offers, member_offers, new_bundler, new_lane, offers_at, offers_from, parts_offer, room_offers}
 use Rattle.bundle_port.specs.Promises.{Among, JoinsOffers}
-use Rattle.bundle_port.specs.Runs.{Call, Left, Offer, Polls, Waits, after, below, below_events, may_call, may_make}
+use Rattle.bundle_port.specs.Runs.{Call, Flush, Left, Offer, Polls, Waits, after, below, below_events, may_call, may_make}
 use Rattle.bundle_port.proofs.FormatLemmas.{read_parts}
+use Rattle.bundle_port.proofs.HandLemmas.{among_either}
 use Rattle.bundle_port.proofs.LaneLemmas.{HasLanes, IsLane, IsRow, lane_for, lanes_at_start, lanes_one}
 
 -- an offer of the node, or a bundle of them
@@ -18,15 +19,6 @@ IsOwn all to bytes = Among all (Offer to bytes) ⊎ JoinsOffers all to bytes
 
 abbrev offered : Sender → List ℕ → PortEvent
 offered to bytes = Offered to bytes
-
-among_either : {A : Type 0} (first second : List A) (one : A) → Among (first ++ second) one → Among first one ⊎ Among second one
-among_either [] second one h = inr h
-among_either (x ∷ first) second one (inl is) = inl (inl is)
-among_either (x ∷ first) second one (inr h) = go (among_either first second one h)
-  where
-    go : Among first one ⊎ Among second one → Among (x ∷ first) one ⊎ Among second one
-    go (inl a) = inl (inr a)
-    go (inr a) = inr a
 
 -- ---- what waited
 
@@ -130,6 +122,7 @@ own_one all b (Waits event) may made has to bytes h = go (among_either (flush_of
 own_one all b (Polls event) may made has to bytes h = absurd (no_offer b event to bytes (inr may) h)
 own_one all b Left may made has to bytes h = absurd h
 own_one all b (Offer own datagram) may made has to bytes h = own_offer all b own datagram has made to bytes h
+own_one all b Flush may made has to bytes h = own_lanes all b.lanes 1 has.lane to bytes h
 
 -- ---- all calls
 

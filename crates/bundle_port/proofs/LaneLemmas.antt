@@ -8,7 +8,7 @@ use Rattle.datagram_port.specs.declared.port.Sender.TheVariants.{Client, Peer}
 use Rattle.bundle_port.specs.Bundle.{bundle_bytes, is_part, parts_at, parts_bytes}
 use Rattle.bundle_port.specs.Bundler.{BundlerRecord, LaneRecord, after_datagram, after_event, after_flush, after_wait, calm_waits, goes_at_once, has_room, is_calm, is_member, lane_after, lanes_after, new_bundler, new_lane, one_more, parts_after, parts_kept, waiting_for}
 use Rattle.bundle_port.specs.Promises.{Among, are_parts}
-use Rattle.bundle_port.specs.Runs.{Call, Left, Offer, Polls, Waits, after}
+use Rattle.bundle_port.specs.Runs.{Call, Flush, Left, Offer, Polls, Waits, after}
 
 -- ---- lanes
 
@@ -221,6 +221,7 @@ lanes_one all b (Offer (Peer member) bytes) made has = go (is_member member) ref
     go : (is : Bool) → is_member member ≡ is → HasLanes all (cond is (record b { lanes = lanes_after b.lanes member bytes }) b)
     go true is = lanes_offer all b member bytes is made has
     go false is = has
+lanes_one all b Flush made has = lanes_flush all b has
 
 none_of : (n k : ℕ) → get_or (replicate n new_lane) k new_lane ≡ new_lane
 none_of zero k = refl

@@ -8,7 +8,7 @@ use Rattle.datagram_port.specs.declared.port.Sender.TheVariants.{Client, Peer}
 use Rattle.bundle_port.specs.Bundle.{is_part, parts_at}
 use Rattle.bundle_port.specs.Bundler.{BundlerRecord, LaneRecord, LeftRecord, after_datagram, after_event, after_flush, datagram_of, first_or_itself, first_part, flush_offers, goes_at_once, handed_in, has_room, is_member, lane_offers, member_offers, new_bundler, new_lane, offer_of, offers_at, offers_from, parts_offer, room_offers}
 use Rattle.bundle_port.specs.Promises.{all_received, datagram_from, datagrams_from, left_from, parts_received}
-use Rattle.bundle_port.specs.Runs.{Call, Left, Offer, Polls, Waits, after, after_calls, below, below_events, handed, handed_events, is_none_left, may_call, may_make}
+use Rattle.bundle_port.specs.Runs.{Call, Flush, Left, Offer, Polls, Waits, after, after_calls, below, below_events, handed, handed_events, is_none_left, may_call, may_make}
 use Rattle.bundle_port.proofs.HandLemmas.{have_one, left_offer}
 
 -- ---- offers are not received
@@ -61,6 +61,12 @@ none_of_offers member b (Peer number) bytes = go (is_member number)
     go true = none_of_lane member number (slice_index_or b.lanes (number - 1) new_lane) bytes
     go false = refl
 
+datagrams_append : (member : ℕ) (first second : List PortEvent) → datagrams_from member (first ++ second) ≡ datagrams_from member first ++ datagrams_from member second
+datagrams_append member [] second = refl
+datagrams_append member (event ∷ first) second =
+    ap (λ (l : List (List ℕ)). datagram_from member event ++ l) (datagrams_append member first second)
+    ∙ sym (append_assoc (datagram_from member event) (datagrams_from member first) (datagrams_from member second))
+
 -- ---- one call
 
 -- the parts that are left of a member
@@ -69,7 +75,7 @@ left_of member left = cond (eqb left.from member) left.parts []
 
 abbrev IsHanded : ℕ → BundlerRecord → Call → Type 0
 IsHanded member b call =
-    datagram_from member (handed b call) ++ left_from (after b call) member ≡ left_from b member ++ all_received member (below b call)
+    datagrams_from member (handed b call) ++ left_from (after b call) member ≡ left_from b member ++ all_received member (below b call)
 
 none : (parts : List (List ℕ)) → eqb (length parts) 0 ≡ true → parts ≡ []
 none [] e = refl
@@ -121,17 +127,25 @@ none_at_polls b Quiet may = absurd (true≢false (sym may))
 none_at_polls b Faulted may = may
 none_at_polls b (Offered to bytes) may = absurd (true≢false (sym may))
 
+-- the datagrams of one event
+one_datagram : (member : ℕ) (event : PortEvent) (rest : List (List ℕ)) → datagrams_from member (event ∷ []) ++ rest ≡ datagram_from member event ++ rest
+one_datagram member event rest = ap (λ (l : List (List ℕ)). l ++ rest) (append-nil (datagram_from member event))
+
 handed_one : (member : ℕ) (b : BundlerRecord) (call : Call) → may_call b call ≡ true → IsHanded member b call
 handed_one member b (Waits event) may =
     let before = nothing_left b member (none_at_waits b event may) in
-    handed_event member (after_flush b) event before
+    one_datagram member (handed_in event) (left_from (after b (Waits event)) member)
+    ∙ handed_event member (after_flush b) event before
     ∙ sym (ap (λ (l : List (List ℕ)). l ++ all_received member (flush_offers b ++ event ∷ [])) before
     ∙ received_append member (flush_offers b) (event ∷ [])
     ∙ ap (λ (l : List (List ℕ)). l ++ (parts_received member event ++ [])) (none_of_lanes member 1 b.lanes))
 handed_one member b (Polls event) may =
     let before = nothing_left b member (none_at_polls b event may) in
-    handed_event member b event before ∙ sym (ap (λ (l : List (List ℕ)). l ++ (parts_received member event ++ [])) before)
-handed_one member b Left may = go (eqb b.left.from member) ∙ sym (append-nil (left_from b member))
+    one_datagram member (handed_in event) (left_from (after b (Polls event)) member)
+    ∙ handed_event member b event before ∙ sym (ap (λ (l : List (List ℕ)). l ++ (parts_received member event ++ [])) before)
+handed_one member b Left may =
+    one_datagram member (Received (Peer b.left.from) (first_part b.left.parts)) (left_from (after b Left) member)
+    ∙ go (eqb b.left.from member) ∙ sym (append-nil (left_from b member))
   where
     go : (is : Bool) → cond is (first_part b.left.parts ∷ []) [] ++ cond is (drop 1 b.left.parts) [] ≡ cond is b.left.parts []
     go true = first_and_rest b.left.parts (leb-true 1 (length b.left.parts) may)
@@ -139,6 +153,8 @@ handed_one member b Left may = go (eqb b.left.from member) ∙ sym (append-nil (
 handed_one member b (Offer to bytes) may =
     ap (left_of member) (left_offer b to bytes)
     ∙ sym (ap (λ (l : List (List ℕ)). left_from b member ++ l) (none_of_offers member b to bytes) ∙ append-nil (left_from b member))
+handed_one member b Flush may =
+    sym (ap (λ (l : List (List ℕ)). left_from b member ++ l) (none_of_lanes member 1 b.lanes) ∙ append-nil (left_from b member))
 
 -- ---- all calls
 
@@ -148,8 +164,9 @@ handed_over member b [] may = sym (append-nil (left_from b member))
 handed_over member b (call ∷ calls) may =
     let u = after b call in
     let both = and_parts (may_call b call) (may_make u calls) may in
-    let one = datagram_from member (handed b call) in
-    append_assoc one (datagrams_from member (handed_events u calls)) (left_from (after_calls u calls) member)
+    let one = datagrams_from member (handed b call) in
+    ap (λ (l : List (List ℕ)). l ++ left_from (after_calls u calls) member) (datagrams_append member (handed b call) (handed_events u calls))
+    ∙ append_assoc one (datagrams_from member (handed_events u calls)) (left_from (after_calls u calls) member)
     ∙ ap (λ (l : List (List ℕ)). one ++ l) (handed_over member u calls both.1)
     ∙ sym (append_assoc one (left_from u member) (all_received member (below_events u calls)))
     ∙ ap (λ (l : List (List ℕ)). l ++ all_received member (below_events u calls)) (handed_one member b call both.0)

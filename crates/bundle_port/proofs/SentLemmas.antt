@@ -7,7 +7,7 @@ use Rattle.datagram_port.specs.declared.port.Sender.TheVariants.{Client, Peer}
 use Rattle.bundle_port.specs.Bundle.{bundle_bytes, is_bundle, is_part, parts_at, parts_or_itself}
 use Rattle.bundle_port.specs.Bundler.{BundlerRecord, LaneRecord, after_flush, after_offer, flush_offers, goes_at_once, has_room, is_member, lane_after, lane_offers, lanes_after, member_offers, new_bundler, new_lane, offers_at, offers_from, parts_after, parts_kept, parts_offer, room_offers, waiting_for}
 use Rattle.bundle_port.specs.Promises.{Among, all_offered, own_of, own_offers, parts_offered}
-use Rattle.bundle_port.specs.Runs.{Call, Left, Offer, Polls, Waits, after, after_calls, below, below_events, may_call, may_make}
+use Rattle.bundle_port.specs.Runs.{Call, Flush, Left, Offer, Polls, Waits, after, after_calls, below, below_events, may_call, may_make}
 use Rattle.bundle_port.proofs.FormatLemmas.{read_parts}
 use Rattle.bundle_port.proofs.LaneLemmas.{HasLanes, IsLane, IsRow, lane_for, lane_of_member, lane_of_others, lanes_at_start, lanes_one, none_after_wait, none_at_start, none_waits, number_of, past_lanes, same_lanes}
 
@@ -273,6 +273,9 @@ sent_one all member b (Offer (Peer number) bytes) may made has plain = go (eqb n
         subst (λ (n : ℕ). all_offered member (offers_at b (Peer n) bytes) ++ waiting_for (after_offer b (Peer n) bytes) member ≡ waiting_for b member ++ bytes ∷ []) (sym is)
         (offer_same all b member bytes has plain (plain bytes (subst (λ (n : ℕ). Among all (Offer (Peer n) bytes)) is made)))
     go false e = offer_other b member number bytes (eqb-false number member e) ∙ sym (append-nil (waiting_for b member))
+sent_one all member b Flush may made has plain =
+    ap (λ (l : Parts). l ++ waiting_for (after_flush b) member) (flush_sent all b member has plain)
+    ∙ ap (λ (l : Parts). waiting_for b member ++ l) (flush_none b member)
 
 -- ---- all calls
 

@@ -12,7 +12,7 @@ pub record LeftRecord : Type 0 where
 
 -- The lane of a member: the parts that wait to be sent to it, and how many datagrams the node offers to it.
 -- `offered` is the number of datagrams since the last wait, with 2 for two or more. `calm` is the number of calm
--- waits in a row, with 8 for eight or more.
+-- waits in a row, with 8 for eight or more. A flush counts as a wait.
 pub record LaneRecord : Type 0 where
   pub parts : List (List ℕ)
   pub offered : ℕ

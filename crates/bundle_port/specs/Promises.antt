@@ -5,7 +5,7 @@ use Rattle.datagram_port.specs.declared.port.Sender.{Sender}
 use Rattle.datagram_port.specs.declared.port.Sender.TheVariants.{Client, Peer}
 use Rattle.bundle_port.specs.Bundle.{is_part, parts_at, parts_or_itself}
 use Rattle.bundle_port.specs.Bundler.{BundlerRecord}
-use Rattle.bundle_port.specs.Runs.{Call, Waits, Polls, Left, Offer}
+use Rattle.bundle_port.specs.Runs.{Call, Waits, Polls, Left, Offer, Flush}
 
 -- the element is in the list
 abbrev pub Among : {A : Type 0} → List A → A → Type 0
@@ -64,6 +64,7 @@ own_of member (Polls event) = []
 own_of member Left = []
 own_of member (Offer (Peer number) bytes) = if number == member then bytes ∷ [] else []
 own_of member (Offer (Client number) bytes) = []
+own_of member Flush = []
 
 -- the datagrams that the node offered to a member, in order
 abbrev pub own_offers : ℕ → List Call → List (List ℕ)

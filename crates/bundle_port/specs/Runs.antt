@@ -6,19 +6,21 @@ use Rattle.datagram_port.specs.declared.port.Sender.TheVariants.{Peer}
 use Rattle.bundle_port.specs.Bundler.{BundlerRecord, after_event, after_flush, after_left, after_offer, first_part, flush_offers, handed_in, new_bundler, offers_at}
 
 -- A call of a node's port: a receive of the port below with its event, a poll of it that found an event, a receive of
--- the next part that was left, or an offer of the node.
+-- the next part that was left, an offer of the node, or a flush of all that waits.
 pub data Call : Type 0 where
   Waits : (event : PortEvent) → Call
   Polls : (event : PortEvent) → Call
   Left : Call
   Offer : (to : Sender) (bytes : List ℕ) → Call
+  Flush : Call
 
--- the event of the node's port for a call
-abbrev pub handed : BundlerRecord → Call → PortEvent
-handed bundler (Waits event) = handed_in event
-handed bundler (Polls event) = handed_in event
-handed bundler Left = Received (Peer bundler.left.from) (first_part bundler.left.parts)
-handed bundler (Offer to bytes) = Offered to bytes
+-- the events of the node's port for a call: one, but none for a flush
+abbrev pub handed : BundlerRecord → Call → List PortEvent
+handed bundler (Waits event) = handed_in event ∷ []
+handed bundler (Polls event) = handed_in event ∷ []
+handed bundler Left = Received (Peer bundler.left.from) (first_part bundler.left.parts) ∷ []
+handed bundler (Offer to bytes) = Offered to bytes ∷ []
+handed bundler Flush = []
 
 -- the events of the port below for a call: a receive first offers all that waits
 abbrev pub below : BundlerRecord → Call → List PortEvent
@@ -26,6 +28,7 @@ below bundler (Waits event) = flush_offers bundler ++ event ∷ []
 below bundler (Polls event) = event ∷ []
 below bundler Left = []
 below bundler (Offer to bytes) = offers_at bundler to bytes
+below bundler Flush = flush_offers bundler
 
 -- the bundler after a call
 abbrev pub after : BundlerRecord → Call → BundlerRecord
@@ -33,6 +36,7 @@ after bundler (Waits event) = after_event (after_flush bundler) event
 after bundler (Polls event) = after_event bundler event
 after bundler Left = after_left bundler
 after bundler (Offer to bytes) = after_offer bundler to bytes
+after bundler Flush = after_flush bundler
 
 -- the bundler after calls, in order
 abbrev pub after_calls : BundlerRecord → List Call → BundlerRecord
@@ -42,7 +46,7 @@ after_calls bundler (call ∷ calls) = after_calls (after bundler call) calls
 -- the events of the node's port for calls, in order
 abbrev pub handed_events : BundlerRecord → List Call → List PortEvent
 handed_events bundler [] = []
-handed_events bundler (call ∷ calls) = handed bundler call ∷ handed_events (after bundler call) calls
+handed_events bundler (call ∷ calls) = handed bundler call ++ handed_events (after bundler call) calls
 
 -- the events of the port below for calls, in order
 abbrev pub below_events : BundlerRecord → List Call → List PortEvent
@@ -66,6 +70,7 @@ may_call bundler (Polls Quiet) = false
 may_call bundler (Polls Faulted) = is_none_left bundler
 may_call bundler Left = nat_le 1 (length bundler.left.parts)
 may_call bundler (Offer to bytes) = true
+may_call bundler Flush = true
 
 -- whether the port may make each of the calls, in order
 abbrev pub may_make : BundlerRecord → List Call → Bool

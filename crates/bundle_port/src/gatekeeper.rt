@@ -2,7 +2,7 @@
 
 use crate::port::BundlePort;
 use node_log::{Fell, Gatekeeper, Older, PLACES};
-use sealed_port::Unopened;
+use sealed_port::{SetAside, Unopened};
 
 impl<P: Gatekeeper + Drop> Gatekeeper for BundlePort<P> {
     ghost unopened = { λ bundles. P.unopened bundles.port };
@@ -12,6 +12,12 @@ impl<P: Gatekeeper + Drop> Gatekeeper for BundlePort<P> {
     ghost fell = { λ bundles. P.fell bundles.port };
 
     ghost differing = { λ bundles. P.differing bundles.port };
+
+    ghost aside = { λ bundles. P.aside bundles.port };
+
+    ghost below = { λ bundles. P.below bundles.port };
+
+    ghost reported = { λ bundles. P.reported bundles.port };
 
     fn take_unopened(&mut self) -> Unopened {
         self.port.take_unopened()
@@ -27,5 +33,17 @@ impl<P: Gatekeeper + Drop> Gatekeeper for BundlePort<P> {
 
     fn take_differing(&mut self) -> [bool; PLACES] {
         self.port.take_differing()
+    }
+
+    fn take_request(&mut self) -> Option<SetAside> {
+        self.port.take_request()
+    }
+
+    fn report(&mut self, request: &SetAside, page: &[u8]) -> bool {
+        self.port.report(request, page)
+    }
+
+    fn flush(&mut self) {
+        self.flush_all();
     }
 }

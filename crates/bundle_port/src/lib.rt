@@ -1,12 +1,13 @@
 //! A port that joins the datagrams which a node sends to a member into one.
 //!
 //! A [`BundlePort`] is a node's port over another one. A datagram of 32 to 255 bytes to a member waits until the next
-//! receive. The receive first offers what waits to the port below, joined into one datagram for each member. The port
-//! takes the bundles of other members apart, and hands in their parts one by one. All other datagrams pass unchanged.
-//! The port knows no keys, and nothing of what is in the datagrams.
+//! receive. The receive first offers what waits to the port below, joined into one datagram for each member. A flush
+//! offers it too, and receives nothing. The port takes the bundles of other members apart, and hands in their parts one
+//! by one. All other datagrams pass unchanged. The port knows no keys, and nothing of what is in the datagrams.
 //!
 //! The lane of a member is calm after eight receives in a row before each of which at most one datagram was offered to
-//! it. Then the first datagram after a receive is offered at once: a lone datagram has no other one to wait for.
+//! it. Then the first datagram after a receive is offered at once: a lone datagram has no other one to wait for. A
+//! flush counts as a receive.
 #![tactic(auto)]
 
 mod bundle;
@@ -29,6 +30,7 @@ pub use laws::{
 };
 pub use port::BundlePort;
 pub use worked::{
-    bundles_are_worked, calls_are_worked, calls_can_be_broken, lanes_are_worked, lists_are_worked,
-    offers_are_worked, promises_can_be_broken, receives_are_worked,
+    bundles_are_worked, calls_are_worked, calls_can_be_broken, flushes_are_worked,
+    lanes_are_worked, lists_are_worked, offers_are_worked, promises_can_be_broken,
+    receives_are_worked,
 };

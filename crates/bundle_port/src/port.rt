@@ -1,9 +1,10 @@
 //! A node's port that joins datagrams.
 
-ghost use Rattle.std.specs.Prelude.{◌≡◌, [], IfSome};
+ghost use Rattle.std.specs.Prelude.{◌≡◌, ◌∷◌, ◌++◌, [], IfSome, Some};
 ghost use Rattle.datagram_port.specs.Port.{Grows};
 ghost use Rattle.bundle_port.specs.Bundler as spec;
-ghost use Rattle.bundle_port.specs.Runs.{IsAfter};
+ghost use Rattle.bundle_port.specs.Bundler.{new_bundler};
+ghost use Rattle.bundle_port.specs.Runs.{Flush, IsAfter, handed_events};
 
 use crate::bundle::is_part;
 use crate::bundler::{Bundler, MAX_MEMBERS};
@@ -13,8 +14,8 @@ use crate::waiting::Waiting;
 use datagram_port::{Port, Received, Sender};
 
 /// A node's port over another one. It joins the datagrams to a member between two waits into one, and takes the bundles
-/// of the other members apart. It sends a lone datagram to a member at once. It keeps a record of the calls. What it
-/// handed in and what the port below was offered follow from the record.
+/// of the other members apart. It sends a lone datagram to a member at once. A flush counts as a wait. The port keeps a
+/// record of the calls. What it handed in and what the port below was offered follow from the record.
 #[derive(Drop)]
 pub struct BundlePort<P: Port + Drop> {
     /// The port below. Tests read what it was offered.
@@ -36,7 +37,7 @@ fn offer_waiting<P: Port>(port: &mut P, member: u8, waiting: &mut Waiting)
     waiting.clear();
 }
 
-/// Offers what waits for a member before a wait.
+/// Offers what waits for a member before a wait or at a flush, and counts the wait.
 fn flush_lane<P: Port>(port: &mut P, member: u8, lane: &mut Lane)
     ensures offers { Grows (P.events port.old) (P.events port.new) (spec.parts_offer member lane.old.parts) }
     ensures after { lane.new ≡ spec.after_wait lane.old }
@@ -46,8 +47,8 @@ fn flush_lane<P: Port>(port: &mut P, member: u8, lane: &mut Lane)
     lane.count_wait();
 }
 
-/// Offers all that waits, in the order of the members.
-fn flush<P: Port>(port: &mut P, bundler: &mut Bundler)
+/// Offers all that waits, in the order of the members, and counts a wait of each lane.
+fn flush_lanes<P: Port>(port: &mut P, bundler: &mut Bundler)
     ensures offers { Grows (P.events port.old) (P.events port.new) (spec.flush_offers bundler.old) }
     ensures after { bundler.new ≡ spec.after_flush bundler.old }
     ensures stays { P.setup port.new ≡ P.setup port.old }
@@ -132,6 +133,20 @@ impl<P: Port + Drop> BundlePort<P> {
         }
     }
 
+    /// Offers all that waits to the port below. The next wait offers nothing of it again.
+    pub(crate) fn flush_all(&mut self)
+        ensures offers { Grows (P.events self.old.port) (P.events self.new.port)
+            (spec.flush_offers self.old.bundler) }
+        ensures calls { self.new.calls.calls ≡ self.old.calls.calls ++ Flush ∷ [] }
+        ensures events { Some (handed_events new_bundler self.new.calls.calls)
+            ≡ Some (handed_events new_bundler self.old.calls.calls) }
+        ensures stays { P.setup self.new.port ≡ P.setup self.old.port }
+    {
+        let bundler = &mut self.bundler;
+        flush_lanes(&mut self.port, bundler);
+        self.calls.note_flush();
+    }
+
     /// Returns the port below. What waits is lost.
     pub fn into_inner(self) -> P
         ensures port { result ≡ self.port }
@@ -156,7 +171,7 @@ impl<P: Port + Drop> Port for BundlePort<P> {
             self.calls.note_left();
             return self.bundler.hand_in(buffer);
         }
-        flush(&mut self.port, &mut self.bundler);
+        flush_lanes(&mut self.port, &mut self.bundler);
         let received = self.port.receive(buffer);
         self.calls.note_wait(&received, buffer.as_slice());
         self.bundler.take(received, buffer)

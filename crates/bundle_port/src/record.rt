@@ -3,7 +3,7 @@
 ghost use Rattle.std.specs.Prelude.{◌≡◌, ◌∷◌, ◌++◌, List, []};
 ghost use Rattle.std.specs.Borrow.{ftrue};
 ghost use Rattle.datagram_port.specs.Port.{event_of_receive};
-ghost use Rattle.bundle_port.specs.Runs.{Call, Left, Offer, Polls, Waits};
+ghost use Rattle.bundle_port.specs.Runs.{Call, Flush, Left, Offer, Polls, Waits};
 
 use datagram_port::{Received, Sender};
 use std::marker::{Model, PhantomData};
@@ -42,6 +42,11 @@ impl Record {
     /// Appends a receive of a part that was left.
     pub(crate) fn note_left(&mut self)
         ensures { self.new.calls ≡ self.old.calls ++ Left ∷ [] }
+    {}
+
+    /// Appends a flush.
+    pub(crate) fn note_flush(&mut self)
+        ensures { self.new.calls ≡ self.old.calls ++ Flush ∷ [] }
     {}
 
     /// Appends an offered datagram.

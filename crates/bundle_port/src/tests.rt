@@ -5,6 +5,7 @@ ghost use Rattle.datagram_port.specs.Port.{IsWithin};
 
 use crate::{BundlePort, is_bundle};
 use datagram_port::{Coming, ListPort, Port, PortEntry, Received, Sender};
+use node_log::Gatekeeper;
 use std::alloc::Global;
 use std::test::Fail;
 
@@ -82,6 +83,26 @@ fn datagrams_are_joined(rt: HostRuntime) -> Result<(), Fail> {
     assert!(rt; is_offer(&entries[0], Sender::Peer(2), &bundle_of_three()));
     assert!(rt; is_offer(&entries[1], Sender::Peer(3), FIRST));
     assert!(rt; entries[2] == PortEntry::Quiet);
+    Ok(())
+}
+
+/// Two datagrams to a member wait. A flush offers them as one bundle, and the next receive offers nothing again.
+#[test]
+fn flush_offers_what_waits(rt: HostRuntime) -> Result<(), Fail> {
+    let mut port = BundlePort::new(ListPort::new(rt.alloc(), &[]));
+    assert!(rt; port.send(Sender::Peer(2), FIRST));
+    assert!(rt; port.send(Sender::Peer(2), SECOND));
+    assert!(rt; port.port.record().ok_or("a record")?.is_empty());
+    port.flush();
+    let entries = port.port.record().ok_or("a record")?;
+    assert!(rt; entries.len() == 1);
+    let three = bundle_of_three();
+    assert!(rt; is_offer(&entries[0], Sender::Peer(2), &three[..70]));
+    wait(&mut port, 1);
+    let below = port.into_inner();
+    let entries = below.record().ok_or("a record")?;
+    assert!(rt; entries.len() == 2);
+    assert!(rt; entries[1] == PortEntry::Quiet);
     Ok(())
 }
 

@@ -5,7 +5,7 @@ ghost use Rattle.bundle_port.specs.Bundle.{bundle_bytes, is_bundle, is_part, par
 ghost use Rattle.bundle_port.specs.Bundler.{after_event, after_flush, after_left, after_offer, calm_after, datagram_of, first_part, flush_offers, goes_at_once, handed_in, has_room, is_calm, new_bundler, new_lane, offers_at, one_more, waiting_for};
 ghost use Rattle.bundle_port.specs.Examples.{both, bundle_of_both, calm_for, first, from_1, lane_of, left_with, of_len, second, waiting_with, with_lane};
 ghost use Rattle.bundle_port.specs.Promises.{HandsIn, JoinsOffers, all_offered, all_received, are_parts, datagrams_from, left_from, own_offers};
-ghost use Rattle.bundle_port.specs.Runs.{IsAfter, Left, Offer, Polls, Waits, after_calls, below_events, handed_events, may_call, may_make};
+ghost use Rattle.bundle_port.specs.Runs.{Flush, IsAfter, Left, Offer, Polls, Waits, after_calls, below_events, handed_events, may_call, may_make};
 
 /// Worked cases. Bundles, and datagrams that are none.
 pub fn bundles_are_worked()
@@ -143,6 +143,27 @@ pub fn calls_are_worked()
         ≡ true ∷ false ∷ [] }
 {}
 
+/// Worked cases. What waits is offered at a flush, and nothing is handed in. A later wait offers nothing again.
+pub fn flushes_are_worked()
+    ensures offered { below_events new_bundler (Offer (Peer 2) first ∷ Offer (Peer 2) second ∷ Flush ∷ [])
+        ≡ Offered (Peer 2) bundle_of_both ∷ [] }
+    ensures handed { handed_events new_bundler (Offer (Peer 2) first ∷ Flush ∷ Waits (from_1 second) ∷ [])
+        ≡ Offered (Peer 2) first ∷ from_1 second ∷ [] }
+    ensures offered_once { below_events new_bundler (Offer (Peer 2) first ∷ Offer (Peer 2) second ∷ Flush ∷ Waits Quiet
+        ∷ []) ≡ Offered (Peer 2) bundle_of_both ∷ Quiet ∷ [] }
+    ensures in_order { below_events new_bundler (Offer (Peer 3) second ∷ Offer (Peer 2) first ∷ Flush
+        ∷ Offer (Peer 2) second ∷ Flush ∷ [])
+        ≡ Offered (Peer 2) first ∷ Offered (Peer 3) second ∷ Offered (Peer 2) second ∷ [] }
+    ensures nothing_waits { below_events new_bundler (Flush ∷ Flush ∷ []) ≡ [] }
+    ensures after { after_calls new_bundler (Offer (Peer 2) first ∷ Flush ∷ []) ≡ calm_for 1 }
+    ensures busy { after_calls (calm_for 8) (Offer (Peer 2) first ∷ Offer (Peer 2) second ∷ Flush ∷ [])
+        ≡ with_lane (calm_for 8) 2 new_lane }
+    ensures left { after_calls (left_with both) (Flush ∷ [])
+        ≡ record (left_with both) { lanes = (calm_for 1).lanes } }
+    ensures own { own_offers 2 (Offer (Peer 2) first ∷ Flush ∷ Offer (Peer 2) second ∷ []) ≡ both }
+    ensures may { map (λ bundler. may_call bundler Flush) (new_bundler ∷ left_with both ∷ []) ≡ replicate 2 true }
+{}
+
 /// Worked cases. What was offered to a member or came from it, in order.
 pub fn lists_are_worked()
     ensures parts { map are_parts ([] ∷ both ∷ ([] ∷ []) ∷ (first ∷ [] ∷ []) ∷ []) ≡ true ∷ true ∷ false ∷ false ∷ [] }
@@ -171,6 +192,10 @@ pub fn calls_can_be_broken()
         (Waits Faulted ∷ []) → ⊥ }
     ensures uncounted_wait { IsAfter (Some (Faulted ∷ [])) new_bundler (Waits Faulted ∷ []) → ⊥ }
     ensures quiet_poll { IsAfter (Some (Quiet ∷ [])) new_bundler (Polls Quiet ∷ []) → ⊥ }
+    ensures flushed { IsAfter (Some (Offered (Peer 2) first ∷ [])) (calm_for 1) (Offer (Peer 2) first ∷ Flush ∷ []) }
+    ensures kept_at_flush { IsAfter (Some []) (calm_for 1) (Offer (Peer 2) first ∷ Flush ∷ []) → ⊥ }
+    ensures waits_after_flush { IsAfter (Some (Offered (Peer 2) first ∷ []))
+        (with_lane (calm_for 1) 2 (lane_of (first ∷ []) 0 1)) (Offer (Peer 2) first ∷ Flush ∷ []) → ⊥ }
 {}
 
 /// Counterexamples: each promise of what is handed in and of what is offered fails for a minimal one.

@@ -4,3 +4,4 @@ pub mod Said
 pub mod ClientsFile
 pub mod Clients
 pub mod Examples
+pub mod Operator

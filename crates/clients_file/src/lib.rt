@@ -11,6 +11,7 @@ mod clients;
 mod fault;
 mod fields;
 mod laws;
+mod operator;
 mod reading;
 mod said;
 #[cfg(test)]
@@ -23,5 +24,6 @@ pub use laws::{
     clients_can_be_broken, fields_are_worked, files_are_worked, files_have_clients,
     lines_are_worked, same_blocks_have_same_tags,
 };
+pub use operator::{OperatorFault, read_operator};
 pub use reading::{MAX_CLIENTS_LEN, read_clients};
 pub use sealed_wire::Right;

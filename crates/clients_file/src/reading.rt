@@ -30,7 +30,7 @@ fn last_line(text: &[u8]) -> u64
 }
 
 /// Returns the values of all lines of a text.
-fn read_lines(alloc: Global, text: &[u8]) -> Result<Said, ClientsFault>
+pub(crate) fn read_lines(alloc: Global, text: &[u8]) -> Result<Said, ClientsFault>
     ensures said { IfOk result (λ said. after_lines 1 nothing_said (lines_of text.now) ≡ Ok said) }
     ensures fault { IfErr result (λ fault. is_memory fault.kind ≡ false →
         after_lines 1 nothing_said (lines_of text.now) ≡ Err (fault.line, fault.kind)) }

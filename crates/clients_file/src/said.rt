@@ -1,12 +1,14 @@
 ghost use Rattle.std.specs.Prelude.{◌≡◌, ◌≤◌, ◌<◌, ◌+◌, IfErr, IfOk, OnOk, Ok, Err, false, length};
 ghost use Rattle.token_file.specs.Fields.{fields_of};
 ghost use Rattle.clients_file.specs.ClientsFile.{clients_value, finished, is_memory};
+ghost use Rattle.clients_file.specs.Operator.{only_operator, says_operators};
 ghost use Rattle.clients_file.specs.Said.{after_fields, after_operator, after_word, ahead_of, block_of, client_of, failures_of, has_block, has_number, has_operator, is_remark, new_key, new_number, nothing_said, operators_have, plain_of};
 
 use crate::address::read_loopback;
 use crate::clients::{ClientEntry, Clients, OperatorEntry};
 use crate::fault::LineFault;
 use crate::fields::{key, number_within, one_field, two_fields};
+use crate::operator::OperatorFault;
 use crate::word::{Word, is_same, read_word};
 use sealed_wire::{ClientKey, Right};
 use std::alloc::Global;
@@ -140,6 +142,31 @@ impl Said {
             return Err(LineFault::Memory);
         }
         Ok(())
+    }
+
+    /// Returns whether the lines say nothing but operators.
+    fn says_operators(&self) -> bool
+        ensures { result ≡ says_operators self.now }
+    {
+        self.clients.is_empty()
+            && self.plain.is_empty()
+            && self.ahead.is_none()
+            && self.failures.is_none()
+    }
+
+    /// Returns the operator, if the lines say one and nothing else.
+    pub(crate) fn only_operator(self) -> Result<OperatorEntry, OperatorFault>
+        ensures { result ≡ only_operator self }
+    {
+        if !self.says_operators() {
+            return Err(OperatorFault::SurplusLine);
+        }
+        let mut operators = self.operators;
+        match operators.pop() {
+            Some(operator) if operators.is_empty() => Ok(operator),
+            Some(_) => Err(OperatorFault::SurplusLine),
+            None => Err(OperatorFault::NoOperator),
+        }
     }
 
     /// Returns the clients, after the last line.

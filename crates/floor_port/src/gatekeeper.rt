@@ -3,7 +3,7 @@
 
 use crate::port::FloorPort;
 use node_log::{Fell, Gatekeeper, Older, PLACES};
-use sealed_port::Unopened;
+use sealed_port::{SetAside, Unopened};
 
 impl<P: Gatekeeper + Drop> Gatekeeper for FloorPort<'_, P> {
     ghost use Rattle.std.specs.Prelude.{slice_get};
@@ -15,6 +15,12 @@ impl<P: Gatekeeper + Drop> Gatekeeper for FloorPort<'_, P> {
     ghost fell = { λ floors. slice_get floors.falls 0 };
 
     ghost differing = { λ floors. P.differing floors.port };
+
+    ghost aside = { λ floors. P.aside floors.port };
+
+    ghost below = { λ floors. P.below floors.port };
+
+    ghost reported = { λ floors. P.reported floors.port };
 
     fn take_unopened(&mut self) -> Unopened {
         self.port.take_unopened()
@@ -30,5 +36,17 @@ impl<P: Gatekeeper + Drop> Gatekeeper for FloorPort<'_, P> {
 
     fn take_differing(&mut self) -> [bool; PLACES] {
         self.port.take_differing()
+    }
+
+    fn take_request(&mut self) -> Option<SetAside> {
+        self.port.take_request()
+    }
+
+    fn report(&mut self, request: &SetAside, page: &[u8]) -> bool {
+        self.port.report(request, page)
+    }
+
+    fn flush(&mut self) {
+        self.port.flush();
     }
 }

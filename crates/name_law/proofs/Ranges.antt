@@ -1,5 +1,5 @@
 -- Each envelope that a process offers has a spelling, in every history whose floors and books are in range.
-use Rattle.std.proofs.Common.{◌≡◌, ℕ, zero, suc, ◌^◌, ◌≤◌, Bool, true, false, ◌&&◌, List, [], ◌∷◌, length, map, get_or, Option, Some, None, refl, ◌∙◌, subst, arith, eqb, leb, ltb}
+use Rattle.std.proofs.Common.{◌≡◌, ℕ, zero, suc, ◌^◌, ◌≤◌, Bool, true, false, ◌&&◌, List, [], ◌∷◌, length, map, get_or, Option, Some, None, refl, sym, ◌∙◌, subst, arith, eqb, leb, ltb}
 use Rattle.std.specs.Prelude.{slice_set}
 use Rattle.std.proofs.lemmas.Bool.{and_parts, cond_both, eqb-true, leb-true, ltb-true}
 use Rattle.std.proofs.lemmas.List.{length-map}
@@ -7,7 +7,7 @@ use Rattle.floor_store.specs.Content.{Content, opening_row, with_row}
 use Rattle.floor_store.specs.Records.{RowRecord}
 use Rattle.otp_core.specs.Gate.{clear_gate}
 use Rattle.seated_store.specs.Seats.{row_at, seated_rows}
-use Rattle.vote_core.proofs.Basics.{Each, each_append, each_get_or}
+use Rattle.vote_core.proofs.Basics.{Each, each_append, each_get_or, put_size}
 use Rattle.vote_core.specs.Rows.{no_row, row, row_with_gate, row_with_next}
 use Rattle.vote_core.specs.Schedule.{is_member, last_boot}
 use Rattle.vote_core.specs.State.{IsPlace}
@@ -18,7 +18,7 @@ use Rattle.cluster_sim.specs.World.{Answer, told_reply}
 use Rattle.cluster_sim.proofs.BelowLaws.{GroundLaw}
 use Rattle.cluster_sim.proofs.Spelled.{IsFine, IsFineEvent, IsFineMade, IsSpelledFrom, after_fine}
 use Rattle.seat_law.specs.Seats.{seat_name}
-use Rattle.book_law.specs.Lives.{Action, Opens, FailsToOpen, Takes, Offers, Stops, StopsIn, Loses, Remakes, Enrols, Unlocks, Raises, Output, Process, Sealed, Setting, State, Store, Terms, ToClient, ToPeer, Down, Up, can_be, content_raised, content_unlocked, do_fit, has_store, made_by_input, may_enrol, node_of_action, offers_by, place_in, places_of, process_after, process_half_opened, process_opened, row_of, rows_under, sealed_from, seen_in, state_after_action, state_with, store_at, store_in_next_boot, store_under, store_with_row}
+use Rattle.book_law.specs.Lives.{Action, Opens, FailsToOpen, Takes, Offers, Stops, StopsIn, Loses, Remakes, Enrols, Unlocks, OpensGate, Raises, Output, Process, Sealed, Setting, State, Store, Terms, ToClient, ToPeer, Down, Up, can_be, content_raised, content_unlocked, do_fit, has_store, made_by_input, may_enrol, node_of_action, number_to_unlock, offers_by, place_in, places_of, process_after, process_half_opened, process_opened, row_of, rows_under, sealed_from, seen_in, state_after_action, state_unlocked, state_with, store_at, store_in_next_boot, store_under, store_with_row}
 use Rattle.name_law.specs.Datagrams.{IsSpelled}
 use Rattle.name_law.specs.Unforged.{IsUnforgedAction}
 use Rattle.name_law.proofs.Names.{spelled_named}
@@ -101,6 +101,16 @@ pub record IsFineState (state : State) : Type 0 where
 
 content_rows : (content : Content) → ((t : ℕ) → (row content t).next ≤ 2 ^ 62) → AreRows content.rows
 content_rows content h = each_of HasNext content.rows no_row h
+
+unlocked_fine : (o : Option ℕ) (state : NodeState) → IsFine state.content state.voter → IsFine (state_unlocked o state).content (state_unlocked o state).voter
+unlocked_fine None state h = h
+unlocked_fine (Some number) state h = record {
+  boot = h.boot;
+  next = λ t. a_row (content_unlocked (Some number) state.content).rows t (unlocked_rows (Some number) state.content (content_rows state.content h.next));
+  tokens = subst (λ n. n ≤ 10000) (sym (put_size state.content number (row_with_gate clear_gate (row state.content number)) None)) h.tokens;
+  seq = h.seq;
+  pending = h.pending;
+}
 
 left_rows : (terms : Terms) (below : Store) (content : Content) → AreRows below.content.rows → ((t : ℕ) → (row content t).next ≤ 2 ^ 62) → AreRows (store_under terms.seats content below).content.rows
 left_rows terms below content h next = under_rows (places_of below terms.seats) content.rows below.content.rows (content_rows content next) h
@@ -202,7 +212,10 @@ module _ (grounds : GroundLaw) (setting : Setting) (few : setting.n ≤ 9) (name
       (λ _. each_append HasNext store.content.rows (opening_row floor ∷ []) h (un, tt)) (λ _. h)
   process_fine (Enrols node token floor) (Up own below s waiting) is h can un ok = h
   process_fine (Unlocks node token) (Down store) is h can un ok = unlocked_rows (row_of store token) store.content h
+  process_fine (OpensGate node token) (Down store) is h can un ok = h
   process_fine (Unlocks node token) (Up own below s waiting) is h can un ok = h
+  process_fine (OpensGate node token) (Up own below s waiting) is h can un ok =
+      record { few = h.few; fits = h.fits; rows = h.rows; fine = unlocked_fine (number_to_unlock own token s) s h.fine; waiting_spelled = h.waiting_spelled }
   process_fine (Raises node token floor) (Down store) is h can un ok = raised_rows (row_of store token) floor store.content un h
   process_fine (Raises node token floor) (Up own below s waiting) is h can un ok = h
 
@@ -219,6 +232,7 @@ module _ (grounds : GroundLaw) (setting : Setting) (few : setting.n ≤ 9) (name
   offers_fine (Remakes node boot given floor) p h = tt
   offers_fine (Enrols node token floor) p h = tt
   offers_fine (Unlocks node token) p h = tt
+  offers_fine (OpensGate node token) p h = tt
   offers_fine (Raises node token floor) p h = tt
 
   pub step_fine : (action : Action) → IsFineState state → IsUnforgedAction names state action → IsFineTake state action → IsFineState (state_after_action setting event action state)

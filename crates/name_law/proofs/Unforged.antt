@@ -22,7 +22,7 @@ use Rattle.cluster_sim.proofs.BelowLaws.{GroundLaw}
 use Rattle.cluster_sim.proofs.Spelled.{IsFineEvent}
 use Rattle.seat_law.specs.Seats.{Sites, seat_name}
 use Rattle.seat_law.proofs.Relation.{Sim}
-use Rattle.book_law.specs.Lives.{Action, Opens, FailsToOpen, Takes, Offers, Stops, StopsIn, Loses, Remakes, Enrols, Unlocks, Raises, AreGenuine, IsGenuine, IsGenuineAction, IsGenuineAt, IsHistory, IsOfVote, Output, Process, Sealed, Setting, State, Store, Terms, ToPeer, Down, Up, WasOffered, do_fit, first_state, made_boot, named_envelope, state_after_action}
+use Rattle.book_law.specs.Lives.{Action, Opens, FailsToOpen, Takes, Offers, Stops, StopsIn, Loses, Remakes, Enrols, Unlocks, OpensGate, Raises, AreGenuine, IsGenuine, IsGenuineAction, IsGenuineAt, IsHistory, IsOfVote, Output, Process, Sealed, Setting, State, Store, Terms, ToPeer, Down, Up, WasOffered, do_fit, first_state, made_boot, named_envelope, state_after_action}
 use Rattle.book_law.proofs.Effects.{HasSent, IsSent}
 use Rattle.book_law.proofs.Fits.{Fits}
 use Rattle.book_law.proofs.Floors.{FloorsSentBy, all_grow, told_may, told_of}
@@ -129,6 +129,7 @@ module _ (names : List (List ℕ)) (setting : Setting) (sized : IsSized names se
   genuine_action (Remakes node boot given floor) fine h = tt
   genuine_action (Enrols node token floor) fine h = tt
   genuine_action (Unlocks node token) fine h = tt
+  genuine_action (OpensGate node token) fine h = tt
   genuine_action (Raises node token floor) fine h = tt
 
   fine_take : (action : Action) → IsUnforgedAction names state action → IsFineTake state action
@@ -142,6 +143,7 @@ module _ (names : List (List ℕ)) (setting : Setting) (sized : IsSized names se
   fine_take (Remakes node boot given floor) h = tt
   fine_take (Enrols node token floor) h = tt
   fine_take (Unlocks node token) h = tt
+  fine_take (OpensGate node token) h = tt
   fine_take (Raises node token floor) h = tt
 
 -- ---- a history

@@ -11,7 +11,7 @@ use Rattle.named_wire.specs.Datagram.{datagram_at}
 use Rattle.named_wire.specs.declared.head.Head.{Head}
 use Rattle.named_wire.specs.declared.head.Kind.{Kind}
 use Rattle.named_wire.specs.declared.head.Kind.TheVariants.{Ask, Grant, Deny, Floor, Floors}
-use Rattle.book_law.specs.Lives.{Action, Opens, FailsToOpen, Takes, Offers, Stops, StopsIn, Loses, Remakes, Enrols, Unlocks, Raises, IsOfVote, Output, Process, Sealed, Setting, State, Terms, ToPeer, Down, Up, first_state, made_boot, state_after_action}
+use Rattle.book_law.specs.Lives.{Action, Opens, FailsToOpen, Takes, Offers, Stops, StopsIn, Loses, Remakes, Enrols, Unlocks, OpensGate, Raises, IsOfVote, Output, Process, Sealed, Setting, State, Terms, ToPeer, Down, Up, first_state, made_boot, state_after_action}
 use Rattle.name_law.specs.Datagrams.{AreNames, IsSpelled, IsTranslatorOf, handed_bytes, named_datagram}
 
 -- The ranges of a history: the names of its canonical tokens, the number of nodes, and spellings for the envelopes of
@@ -95,6 +95,7 @@ IsUnforgedAction names state (Loses node) = Unit {0}
 IsUnforgedAction names state (Remakes node boot given floor) = (token : ℕ) → floor token ≤ 2 ^ 62
 IsUnforgedAction names state (Enrols node token floor) = floor ≤ 2 ^ 62
 IsUnforgedAction names state (Unlocks node token) = Unit {0}
+IsUnforgedAction names state (OpensGate node token) = Unit {0}
 IsUnforgedAction names state (Raises node token floor) = floor ≤ 2 ^ 62
 
 -- each of the actions is unforged; the first of them has the given number

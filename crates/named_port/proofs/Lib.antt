@@ -1,4 +1,5 @@
 pub mod MemberLemmas
+pub mod ValueLemmas
 pub mod NamesLemmas
 pub mod WireLemmas
 pub mod RunLemmas

@@ -3,17 +3,16 @@ use Rattle.std.proofs.Common.{◌≡◌, ℕ, zero, suc, ◌+◌, ◌<◌, Bool,
 use Rattle.std.specs.Prelude.{slice_get, is_some, IfSome}
 use Rattle.std.specs.Option.{option_copied}
 use Rattle.std.specs.Ordering.{nat_cmp}
-use Rattle.std.specs.Cmp.Lexicographic.{slice_cmp}
 use Rattle.std.specs.Str.{bytes_eq}
 use Rattle.std.specs.BTreeMap as tree
 use Rattle.std.specs.BTreeMap.{BTreeMap}
 use Rattle.std.proofs.Math.Seq.{drop-cons}
 use Rattle.std.proofs.lemmas.Bool.{ltb-true}
-use Rattle.std.proofs.lemmas.Map.Text.{is_eq-slice_cmp}
 use Rattle.std.proofs.lemmas.Option.{get_or_from_slice_get, slice_get_read, slice_get_within}
 use Rattle.std.proofs.lemmas.Slice.Eq.{bytes_eq-Decides}
 use Rattle.token_names.specs.Names.{AreDistinct}
-use Rattle.named_port.specs.Names.{number_from, number_of}
+use Rattle.named_port.specs.Names.{IsName, number_from, number_of, value_of}
+use Rattle.named_port.proofs.ValueLemmas.{is_eq-values}
 
 abbrev present : {A : Type 0} → A → Option A
 present x = Some x
@@ -90,17 +89,17 @@ named_by names name (Some number) is = name_of_number names number name (sym is)
 -- ---- the index
 
 -- the index has the numbers of the names from a place on
-abbrev pub HasFrom : ℕ → List (List ℕ) → BTreeMap (List ℕ) ℕ → Type 0
-HasFrom place names index = (name : List ℕ) → tree.get (slice_cmp nat_cmp) index name ≡ number_from place (drop place names) name
+abbrev pub HasFrom : ℕ → List (List ℕ) → BTreeMap ℕ ℕ → Type 0
+HasFrom place names index = (name : List ℕ) → IsName name → tree.get nat_cmp index (value_of name) ≡ number_from place (drop place names) name
 
 -- one more name, at the place before
-pub has_from_before : (names : List (List ℕ)) (place upper : ℕ) (key : List ℕ) (old new : BTreeMap (List ℕ) ℕ) → upper ≡ place + 1 → place < length names
-    → key ≡ get_or names place key → HasFrom upper names old → tree.Updates (slice_cmp nat_cmp) old new key (Some place) → HasFrom place names new
-has_from_before names place upper key old new up within is has updates = λ name.
+pub has_from_before : (names : List (List ℕ)) (place upper : ℕ) (key : List ℕ) (old new : BTreeMap ℕ ℕ) → upper ≡ place + 1 → place < length names → IsName key
+    → key ≡ get_or names place key → HasFrom upper names old → tree.Updates nat_cmp old new (value_of key) (Some place) → HasFrom place names new
+has_from_before names place upper key old new up within fine is has updates = λ name named.
     let next : suc place ≡ upper = omega (arith, up) in
     let parts : drop place names ≡ key ∷ drop upper names =
     drop-cons names place key within ∙ ap (λ (x : List ℕ). x ∷ drop (suc place) names) (sym is) ∙ ap (λ (n : ℕ). key ∷ drop n names) next in
-    updates.0 name
-    ∙ ap (λ (t : Bool). cond t (Some place) (tree.get (slice_cmp nat_cmp) old name)) (is_eq-slice_cmp key name)
-    ∙ ap (cond (bytes_eq key name) (Some place)) (has name ∙ ap (λ (n : ℕ). number_from n (drop upper names) name) up)
+    updates.0 (value_of name)
+    ∙ ap (λ (t : Bool). cond t (Some place) (tree.get nat_cmp old (value_of name))) (is_eq-values key name fine named)
+    ∙ ap (cond (bytes_eq key name) (Some place)) (has name named ∙ ap (λ (n : ℕ). number_from n (drop upper names) name) up)
     ∙ sym (ap (λ (l : List (List ℕ)). number_from place l name) parts)

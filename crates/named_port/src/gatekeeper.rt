@@ -2,7 +2,7 @@
 
 use crate::port::NamedPort;
 use node_log::{Fell, Gatekeeper, Older, PLACES};
-use sealed_port::Unopened;
+use sealed_port::{SetAside, Unopened};
 
 impl<P: Gatekeeper + Drop> Gatekeeper for NamedPort<'_, P> {
     ghost unopened = { λ named. P.unopened named.port };
@@ -12,6 +12,12 @@ impl<P: Gatekeeper + Drop> Gatekeeper for NamedPort<'_, P> {
     ghost fell = { λ named. P.fell named.port };
 
     ghost differing = { λ named. named.translator.differing };
+
+    ghost aside = { λ named. P.aside named.port };
+
+    ghost below = { λ named. P.below named.port };
+
+    ghost reported = { λ named. P.reported named.port };
 
     fn take_unopened(&mut self) -> Unopened {
         self.port.take_unopened()
@@ -27,5 +33,17 @@ impl<P: Gatekeeper + Drop> Gatekeeper for NamedPort<'_, P> {
 
     fn take_differing(&mut self) -> [bool; PLACES] {
         NamedPort::take_differing(self)
+    }
+
+    fn take_request(&mut self) -> Option<SetAside> {
+        self.port.take_request()
+    }
+
+    fn report(&mut self, request: &SetAside, page: &[u8]) -> bool {
+        self.port.report(request, page)
+    }
+
+    fn flush(&mut self) {
+        self.port.flush();
     }
 }

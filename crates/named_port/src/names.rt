@@ -1,19 +1,21 @@
 //! The names of the tokens of a book, with an index.
+//!
+//! The index has names by their values, numbers of 128 bits: two of them are compared at once, and not byte by byte.
 
 ghost use Rattle.std.specs.Prelude.{◌≡◌, ◌<◌, ◌≤◌, length, slice_get, map, IfOk, IfSome};
 ghost use Rattle.token_names.specs.Names.{AreDistinct};
-ghost use Rattle.named_port.specs.Names.{HasNumbers, number_of};
+ghost use Rattle.named_port.specs.Names.{HasNumbers, IsName, number_of, value_of};
 
 use std::alloc::{AllocError, Global};
 use std::collections::BTreeMap;
 use std::marker::Model;
-use token_names::{NAME_LEN, Name};
+use token_names::Name;
 
 /// The names of the tokens of a book, at most 10,000, in the order of its rows. No two are the same.
 #[derive(Drop)]
 pub struct Names {
     names: Vec<Name>,
-    index: BTreeMap<[u8; NAME_LEN], u32>,
+    index: BTreeMap<u128, u32>,
 }
 
 impl Model for Names {
@@ -27,14 +29,22 @@ impl Model for Names {
     ghost invariant = { λ names. IsIndexed names.names.items names.index };
 }
 
-/// Returns the index of `names`: the number of each.
-fn index_of(alloc: Global, names: &[Name]) -> Result<BTreeMap<[u8; NAME_LEN], u32>, AllocError>
+/// Returns the value of `name`: the number that its bytes write, the highest first.
+fn value_of_name(name: Name) -> u128
+    ensures value { result ≡ value_of name }
+    ensures name { IsName name }
+{
+    u128::from_be_bytes(name.bytes())
+}
+
+/// Returns the index of `names`: the number of each, under its value.
+fn index_of(alloc: Global, names: &[Name]) -> Result<BTreeMap<u128, u32>, AllocError>
     requires { length names.now ≤ 10000 }
     ensures { IfOk result (HasNumbers names.now) }
 {
     let mut index = BTreeMap::new(alloc);
     for number in (0..names.len()).rev() {
-        index.insert(names[number].bytes(), number as u32)?;
+        index.insert(value_of_name(names[number]), number as u32)?;
     }
     Ok(index)
 }
@@ -63,6 +73,6 @@ impl Names {
         ensures number { result ≡ number_of self.now name }
         ensures named { IfSome result (λ number. slice_get self.now number ≡ Some name) }
     {
-        self.index.get(&name.bytes()).copied()
+        self.index.get(&value_of_name(name)).copied()
     }
 }

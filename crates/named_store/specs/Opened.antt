@@ -106,6 +106,14 @@ pub record AreCounts (db : Database) (node : ℕ) (names : List Entry) (own : Bo
   pub all_rows : counts.all ≡ length (rows_after roster names)
   pub new_rows : counts.enrolled ≡ length (new_entries roster names)
 
+-- The tables are of a store of `node` that is bound to `own`. These are the entries of its rows after the tokens without
+-- one were enrolled.
+pub record AreRows (db : Database) (node : ℕ) (names : List Entry) (own : BondRecord) (rows : List Entry)
+    : Type 0 where
+  pub roster : List Entry
+  pub has : HasNames db node roster own
+  pub rows_are : rows ≡ rows_after roster names
+
 -- The tables `old` are of a store of `node` that is bound to `own`. The tables `new` hold it with the new tokens
 -- behind. Each token has a seat, the row with its name.
 pub record HasSeats (node : ℕ) (names : List Entry) (floors : List ℕ) (own : BondRecord) (old new : Database)

@@ -1,6 +1,6 @@
 //! Opens a store of version 3 for the tokens of a users file.
 
-ghost use Rattle.std.specs.Prelude.{◌≡◌, ◌<◌, ◌≤◌, ◌+◌, length, vec_len, All, false, IsTrue, IfOk, IfErr};
+ghost use Rattle.std.specs.Prelude.{◌≡◌, ◌<◌, ◌≤◌, ◌+◌, ◌++◌, length, vec_len, All, false, IsTrue, IfOk, IfErr};
 ghost use Rattle.sqlite.specs.Held.{state};
 ghost use Rattle.sqlite.specs.State.{HasCleanDisk};
 ghost use Rattle.floor_store.specs.Fault.{is_failure};
@@ -8,7 +8,7 @@ ghost use Rattle.floor_sql.specs.Calls.{HandsBack, IsOpenedAs};
 ghost use Rattle.floor_sql.specs.declared.schema.Format.TheVariants.{Named};
 ghost use Rattle.roster_sql.specs.Enrolled.{Enrols};
 ghost use Rattle.named_store.specs.Floors.{seeded_floors as spec_seeded_floors};
-ghost use Rattle.named_store.specs.Opened.{AreCounts, EnrolsNames, EnrolsNew, HasSeated, IsCause, IsEnrolled, IsGrown, IsRefused, floors_in};
+ghost use Rattle.named_store.specs.Opened.{AreCounts, AreRows, EnrolsNames, EnrolsNew, HasSeated, IsCause, IsEnrolled, IsGrown, IsRefused, floors_in};
 ghost use Rattle.named_store.specs.Seating.{AreNew};
 
 use crate::fault::NamedFault;
@@ -21,7 +21,7 @@ use otp_core::Next;
 use roster_sql::{Bond, Entry, enrol};
 use seated_store::SeatedStore;
 use sqlite::{Alter, Connection};
-use std::alloc::Global;
+use std::alloc::{AllocError, Global};
 
 /// The numbers of rows of a store that was opened for the tokens of a users file.
 #[derive(Clone, Copy, Debug, PartialEq, Eq)]
@@ -154,8 +154,17 @@ fn open_grown<S: Alter>(
     enrol_and_open(alloc, store.close(), node, rows, &fresh, &seating.entries)
 }
 
+/// Returns entries followed by others.
+fn both_of(alloc: Global, first: &[Entry], others: &[Entry]) -> Result<Vec<Entry>, AllocError>
+    ensures { IfOk result (λ both. both.items ≡ first.now ++ others.now) }
+{
+    let mut both = Vec::from_slice(alloc, first)?;
+    both.extend_from_slice(others)?;
+    Ok(both)
+}
+
 /// Opens the store of `node` for the tokens with the entries `names` and the floors `floors`. Returns it with
-/// the numbers of its rows.
+/// the numbers of its rows, and the entry of each row.
 ///
 /// The seat of a token is the row with its name. A token without one is enrolled: it gets a row behind the others, in
 /// one transaction for all. Its floor is the greatest of its own one and of those of all rows with its seed. The other
@@ -177,13 +186,15 @@ pub fn enrol_and_count<S: Alter>(
     names: &[Entry],
     floors: &[Next],
     own: &Bond,
-) -> Result<(SeatedStore<SqlStore<S>>, RowCounts), (Connection<S>, NamedFault)>
+) -> Result<(SeatedStore<SqlStore<S>>, RowCounts, Vec<Entry>), (Connection<S>, NamedFault)>
     requires idle { conn.in_transaction ≡ false }
     requires tokens { length names.now ≤ 10000 }
     requires counted { length floors.now ≡ length names.now }
     ensures opened { IfOk result (λ opened. HasSeated S.Store conn node names.now floors.now own.now opened.0) }
     ensures counts { IfOk result (λ opened. HasCleanDisk (state S.Store opened.0.inner.conn)
         → AreCounts (state S.Store conn).now node names.now own.now opened.1) }
+    ensures rows { IfOk result (λ opened. HasCleanDisk (state S.Store opened.0.inner.conn)
+        → AreRows (state S.Store conn).now node names.now own.now opened.2.items) }
     ensures fault { IfErr result (λ e. HasCleanDisk (state S.Store e.0)
         → IsCause (state S.Store conn).now node names.now own.now e.1) }
     ensures refused { IfErr result (λ e.
@@ -197,10 +208,14 @@ pub fn enrol_and_count<S: Alter>(
     };
     let enrolled = seating.entries.len() as u32;
     let all = roster.len() as u32 + enrolled;
+    let Ok(whole) = both_of(alloc, &roster, &seating.entries) else {
+        return Err((conn, NamedFault::Store(StoreFault::Memory)));
+    };
     match open_grown(alloc, conn, node, &roster, names, floors, &seating) {
         Ok(store) => Ok((
             SeatedStore::new(store, seating.seats),
             RowCounts { all, enrolled },
+            whole,
         )),
         Err((conn, fault)) => Err((conn, NamedFault::Store(fault))),
     }
@@ -227,6 +242,6 @@ pub fn open_named<S: Alter>(
     ensures refused { IfErr result (λ e.
         IsRefused S.Store (EnrolsNames node names.now floors.now own.now) conn e.0) }
 {
-    let (store, _counts) = enrol_and_count(alloc, conn, node, names, floors, own)?;
+    let (store, _counts, _roster) = enrol_and_count(alloc, conn, node, names, floors, own)?;
     Ok(store)
 }

@@ -1,11 +1,12 @@
-//! The trait of a port that tells which datagrams it passed over.
+//! The trait of a port that tells which datagrams it passed over, and that operators ask.
 
 ghost use Rattle.std.specs.Prelude.{◌≡◌, None};
 ghost use Rattle.node_log.specs.Differing.{nobody};
 ghost use Rattle.sealed_port.specs.Causes.{nothing};
 
+use crate::counters::Counters;
 use datagram_port::{Clock, ListPort, Port};
-use sealed_port::{SealedPort, Unopened};
+use sealed_port::{SealedPort, SetAside, Unopened};
 use std::time::Clock as TimeSource;
 use udp_port::UdpPort;
 
@@ -30,12 +31,14 @@ pub struct Fell {
 /// The number of places for members: member 0, which there is not, to member 9.
 pub const PLACES: usize = 10;
 
-/// A port that may pass over datagrams, and counts them.
+/// A port that may pass over datagrams, and counts them. The requests of operators may wait in it.
 pub trait Gatekeeper: Port {
-    ghost use Rattle.std.specs.Prelude.{◌≡◌, Bool, List, Option, None};
+    ghost use Rattle.std.specs.Prelude.{◌≡◌, ℕ, Bool, List, [], Option, None};
+    ghost use Rattle.datagram_port.specs.Port.{Grows, PortEvent};
     ghost use Rattle.node_log.specs.Differing.{nobody};
     ghost use Rattle.node_log.specs.declared.gatekeeper.Fell.{Fell as FellMember};
     ghost use Rattle.node_log.specs.declared.gatekeeper.Older.{Older as OlderDatagram};
+    ghost use Rattle.sealed_port.specs.Aside.{AsideRecord, oldest, others};
     ghost use Rattle.sealed_port.specs.Causes.{nothing};
     ghost use Rattle.sealed_port.specs.declared.cause.Unopened.{Unopened as UnopenedCounts};
 
@@ -52,6 +55,15 @@ pub trait Gatekeeper: Port {
     // 9. By default the port reads everything.
     ghost differing: { Self → List Bool } = { λ _. nobody };
 
+    // The requests of operators that wait, the oldest first. By default the port opens none.
+    ghost aside: { Self → List AsideRecord } = { λ _. [] };
+
+    // The record of the port that takes the reports. By default it keeps none.
+    ghost below: { Self → Option (List PortEvent) } = { λ _. None };
+
+    // What is offered to that port for a page as the report on a request. By default there are no reports.
+    ghost reported: { Self → AsideRecord → List ℕ → List PortEvent } = { λ _ _ _. [] };
+
     /// Returns the numbers of datagrams that the port didn't open since the last call, and sets them to zero.
     fn take_unopened(&mut self) -> Unopened
         ensures numbers { result ≡ unopened self.old }
@@ -59,6 +71,7 @@ pub trait Gatekeeper: Port {
         ensures older { older self.new ≡ older self.old }
         ensures fell { fell self.new ≡ fell self.old }
         ensures differing { differing self.new ≡ differing self.old }
+        ensures aside { aside self.new ≡ aside self.old }
         ensures events { Self.events self.new ≡ Self.events self.old }
         ensures stays { Self.setup self.new ≡ Self.setup self.old };
 
@@ -69,6 +82,7 @@ pub trait Gatekeeper: Port {
         ensures unopened { unopened self.new ≡ unopened self.old }
         ensures fell { fell self.new ≡ fell self.old }
         ensures differing { differing self.new ≡ differing self.old }
+        ensures aside { aside self.new ≡ aside self.old }
         ensures events { Self.events self.new ≡ Self.events self.old }
         ensures stays { Self.setup self.new ≡ Self.setup self.old };
 
@@ -78,6 +92,7 @@ pub trait Gatekeeper: Port {
         ensures unopened { unopened self.new ≡ unopened self.old }
         ensures older { older self.new ≡ older self.old }
         ensures differing { differing self.new ≡ differing self.old }
+        ensures aside { aside self.new ≡ aside self.old }
         ensures events { Self.events self.new ≡ Self.events self.old }
         ensures stays { Self.setup self.new ≡ Self.setup self.old };
 
@@ -89,6 +104,49 @@ pub trait Gatekeeper: Port {
         ensures unopened { unopened self.new ≡ unopened self.old }
         ensures older { older self.new ≡ older self.old }
         ensures fell { fell self.new ≡ fell self.old }
+        ensures aside { aside self.new ≡ aside self.old }
+        ensures events { Self.events self.new ≡ Self.events self.old }
+        ensures stays { Self.setup self.new ≡ Self.setup self.old };
+
+    /// Removes and returns the oldest request of an operator that waits, or returns None if there is none.
+    fn take_request(&mut self) -> Option<SetAside>
+        ensures request { result ≡ oldest (aside self.old) }
+        ensures others { aside self.new ≡ others (aside self.old) }
+        ensures unopened { unopened self.new ≡ unopened self.old }
+        ensures older { older self.new ≡ older self.old }
+        ensures fell { fell self.new ≡ fell self.old }
+        ensures differing { differing self.new ≡ differing self.old }
+        ensures events { Self.events self.new ≡ Self.events self.old }
+        ensures stays { Self.setup self.new ≡ Self.setup self.old };
+
+    /// Returns what the port counted since the process began. By default it counts nothing.
+    fn counters(&mut self) -> Counters
+        ensures unopened { unopened self.new ≡ unopened self.old }
+        ensures older { older self.new ≡ older self.old }
+        ensures fell { fell self.new ≡ fell self.old }
+        ensures differing { differing self.new ≡ differing self.old }
+        ensures aside { aside self.new ≡ aside self.old }
+        ensures events { Self.events self.new ≡ Self.events self.old }
+        ensures stays { Self.setup self.new ≡ Self.setup self.old }
+    {
+        Counters::none()
+    }
+
+    /// Offers what the port holds back to the port below. By default it holds nothing back. As at a send, nothing is
+    /// said of what it passed over.
+    fn flush(&mut self)
+        ensures events { Self.events self.new ≡ Self.events self.old }
+        ensures stays { Self.setup self.new ≡ Self.setup self.old }
+    {}
+
+    /// Sends a page as the report on a request, and returns whether it was taken. A report is no offer of the node.
+    fn report(&mut self, request: &SetAside, page: &[u8]) -> bool
+        ensures reports { Grows (below self.old) (below self.new) (reported self.old request.now page.now) }
+        ensures unopened { unopened self.new ≡ unopened self.old }
+        ensures older { older self.new ≡ older self.old }
+        ensures fell { fell self.new ≡ fell self.old }
+        ensures differing { differing self.new ≡ differing self.old }
+        ensures aside { aside self.new ≡ aside self.old }
         ensures events { Self.events self.new ≡ Self.events self.old }
         ensures stays { Self.setup self.new ≡ Self.setup self.old };
 }
@@ -109,6 +167,14 @@ impl Gatekeeper for ListPort<'_> {
     fn take_differing(&mut self) -> [bool; PLACES] {
         [false; PLACES]
     }
+
+    fn take_request(&mut self) -> Option<SetAside> {
+        None
+    }
+
+    fn report(&mut self, _request: &SetAside, _page: &[u8]) -> bool {
+        false
+    }
 }
 
 impl<R: TimeSource + Drop> Gatekeeper for UdpPort<R> {
@@ -127,10 +193,27 @@ impl<R: TimeSource + Drop> Gatekeeper for UdpPort<R> {
     fn take_differing(&mut self) -> [bool; PLACES] {
         [false; PLACES]
     }
+
+    fn take_request(&mut self) -> Option<SetAside> {
+        None
+    }
+
+    fn report(&mut self, _request: &SetAside, _page: &[u8]) -> bool {
+        false
+    }
 }
 
 impl<P: Port + Drop, C: Clock + Drop> Gatekeeper for SealedPort<P, C> {
+    ghost use Rattle.sealed_port.specs.Port.{offer_of};
+    ghost use Rattle.sealed_port.specs.Requests.{reported as sealed_report};
+
     ghost unopened = { λ port. port.unopened };
+
+    ghost aside = { λ port. port.gate.aside };
+
+    ghost below = { λ port. P.events port.port };
+
+    ghost reported = { λ port request page. offer_of (sealed_report port.gate request page) };
 
     fn take_unopened(&mut self) -> Unopened {
         SealedPort::take_unopened(self)
@@ -146,5 +229,13 @@ impl<P: Port + Drop, C: Clock + Drop> Gatekeeper for SealedPort<P, C> {
 
     fn take_differing(&mut self) -> [bool; PLACES] {
         [false; PLACES]
+    }
+
+    fn take_request(&mut self) -> Option<SetAside> {
+        SealedPort::take_request(self)
+    }
+
+    fn report(&mut self, request: &SetAside, page: &[u8]) -> bool {
+        SealedPort::report(self, request, page)
     }
 }

@@ -10,6 +10,7 @@
 
 mod asked;
 mod bad_lines;
+mod counters;
 mod differing;
 mod gatekeeper;
 mod laws;
@@ -24,6 +25,7 @@ mod text;
 
 pub use asked::{Asked, AskedLines, MAX_ASKED};
 pub use bad_lines::BadLines;
+pub use counters::Counters;
 pub use gatekeeper::{Fell, Gatekeeper, Older, PLACES};
 pub use laws::{
     bad_lines_are_worked, codes_are_not_told, differing_are_worked, lines_are_worked,
@@ -33,4 +35,5 @@ pub use log::{Log, MAX_OTHERS};
 pub use members::Member;
 pub use minute::Minute;
 pub use port::LogPort;
+pub use read::is_read;
 pub use text::{Roster, Start, write_answered, write_end, write_roster, write_start};

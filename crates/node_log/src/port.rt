@@ -10,12 +10,14 @@ ghost use Rattle.node_log.specs.Log.{Remembers, Tells, asked_after, differing_af
 ghost use Rattle.node_log.specs.Minute.{minute_after, minute_at_receive, minute_text, new_minute};
 ghost use Rattle.node_log.specs.Text.{end_line};
 
-use crate::gatekeeper::Gatekeeper;
+use crate::counters::Counters;
+use crate::gatekeeper::{Fell, Gatekeeper, Older, PLACES};
 use crate::log::{Log, MAX_OTHERS};
 use crate::members::Member;
 use crate::read::is_read;
 use arrayvec::ArrayVec;
 use datagram_port::{Port, Received, Sender};
+use sealed_port::{SetAside, Unopened};
 use std::io::Write;
 use vote_wire::ClusterKey;
 
@@ -220,5 +222,53 @@ impl<P: Gatekeeper + Drop, W: Write + Drop> Port for LogPort<'_, P, W> {
         let is_taken = self.port.send(to, bytes);
         note_offer(&mut self.log, to, bytes);
         is_taken
+    }
+}
+
+impl<P: Gatekeeper + Drop, W: Write + Drop> Gatekeeper for LogPort<'_, P, W> {
+    ghost unopened = { λ logged. P.unopened logged.port };
+
+    ghost older = { λ logged. P.older logged.port };
+
+    ghost fell = { λ logged. P.fell logged.port };
+
+    ghost differing = { λ logged. P.differing logged.port };
+
+    ghost aside = { λ logged. P.aside logged.port };
+
+    ghost below = { λ logged. P.below logged.port };
+
+    ghost reported = { λ logged. P.reported logged.port };
+
+    fn take_unopened(&mut self) -> Unopened {
+        self.port.take_unopened()
+    }
+
+    fn take_older(&mut self) -> Option<Older> {
+        self.port.take_older()
+    }
+
+    fn take_fell(&mut self) -> Option<Fell> {
+        self.port.take_fell()
+    }
+
+    fn take_differing(&mut self) -> [bool; PLACES] {
+        self.port.take_differing()
+    }
+
+    fn take_request(&mut self) -> Option<SetAside> {
+        self.port.take_request()
+    }
+
+    fn report(&mut self, request: &SetAside, page: &[u8]) -> bool {
+        self.port.report(request, page)
+    }
+
+    fn flush(&mut self) {
+        self.port.flush();
+    }
+
+    fn counters(&mut self) -> Counters {
+        self.port.counters()
     }
 }

@@ -6,7 +6,7 @@ ghost use Rattle.node_log.specs.Read.{is_read};
 use vote_wire::{ClusterKey, read_message};
 
 /// Returns whether a datagram from the address of the member `number` is one that the member made under `key`.
-pub(crate) fn is_read(key: &ClusterKey, number: u8, bytes: &[u8]) -> bool
+pub fn is_read(key: &ClusterKey, number: u8, bytes: &[u8]) -> bool
     ensures { result ≡ is_read key.now number bytes.now }
 {
     match read_message(key, bytes) {

@@ -1,6 +1,6 @@
 //! Turns over a port in memory.
 
-use datagram_port::{Coming, ListClock, ListPort, PortEntry, Sender};
+use datagram_port::{Coming, ListClock, ListPort, Port, PortEntry, Sender};
 use floor_store::{FloorStore, FuseStore, MemStore};
 use oath_node::{Node, ServeFault, Served, Until, run_turns, run_turns_until};
 use otp_core::{Next, Settings};
@@ -284,11 +284,11 @@ struct Second {
     is_waiting: bool,
 }
 
-impl Until for Second {
-    fn ends(&mut self, left: u64, is_waiting: bool) -> bool {
+impl<S: FloorStore, P: Port> Until<S, P> for Second {
+    fn ends(&mut self, node: &Node<'_, S>, _port: &mut P, left: u64) -> bool {
         self.batches = self.batches.saturating_add(1);
         self.left = left;
-        self.is_waiting = is_waiting;
+        self.is_waiting = node.is_waiting();
         self.batches == 2
     }
 }

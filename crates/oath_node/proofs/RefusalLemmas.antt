@@ -2,7 +2,7 @@
 use Rattle.std.proofs.Common.{◌≡◌, ◌≢◌, ℕ, zero, suc, List, [], ◌∷◌, get_or, set, refl, ap}
 use Rattle.std.proofs.lemmas.Bool.{cond_both}
 use Rattle.std.proofs.lemmas.List.{length-set}
-use Rattle.otp_core.specs.Gate.{GateRecord}
+use Rattle.otp_core.specs.Gate.{GateRecord, clear_gate}
 use Rattle.floor_store.specs.Content.{Content}
 use Rattle.floor_store.specs.Records.{RowRecord}
 use Rattle.vote_core.specs.NodeSet.{PlaceRecord}
@@ -23,14 +23,14 @@ shared f (x ∷ xs) (suc i) zero v d e = refl
 shared f (x ∷ xs) (suc i) (suc j) v d e = shared f xs i j v d e
 
 -- elsewhere nothing changes
-elsewhere : {X : Type 0} (xs : List X) (i j : ℕ) (v d : X) → j ≢ i → get_or (set xs i v) j d ≡ get_or xs j d
+pub elsewhere : {X : Type 0} (xs : List X) (i j : ℕ) (v d : X) → j ≢ i → get_or (set xs i v) j d ≡ get_or xs j d
 elsewhere [] i j v d ne = refl
 elsewhere (x ∷ xs) zero zero v d ne = absurd (ne refl)
 elsewhere (x ∷ xs) zero (suc j) v d ne = refl
 elsewhere (x ∷ xs) (suc i) zero v d ne = refl
 elsewhere (x ∷ xs) (suc i) (suc j) v d ne = elsewhere xs i j v d (λ e. ne (ap suc e))
 
-gate_alone : (c : Content) (token : ℕ) (gate : GateRecord) → KeepsFloors c (content_with_gate token gate c)
+pub gate_alone : (c : Content) (token : ℕ) (gate : GateRecord) → KeepsFloors c (content_with_gate token gate c)
 gate_alone c token gate =
     let r = row_with_gate gate (row c token) in record {
       tokens = length-set c.rows token r;
@@ -40,6 +40,12 @@ gate_alone c token gate =
       boot = refl;
       last = refl;
     }
+
+-- a row with a clear gate is at its place, if the list has the place
+pub cleared : (xs : List RowRecord) (i : ℕ) (v : RowRecord) → v.gate ≡ clear_gate → (get_or (set xs i v) i no_row).gate ≡ clear_gate
+cleared [] i v e = refl
+cleared (x ∷ xs) zero v e = e
+cleared (x ∷ xs) (suc i) v e = cleared xs i v e
 
 nothing_changes : (c : Content) → KeepsFloors c c
 nothing_changes c = record { tokens = refl; next = λ t. refl; grant = λ t. refl; drift = λ t. refl; boot = refl; last = refl }

@@ -190,6 +190,15 @@ so_far_same A held old first asked count now new told said done h t =
     }
 
 -- the turns that are left fit
+-- after a call that leaves the port's record as it is
+pub so_far_asked : {S : Type 0} (held : S → Held) (old : Hosted S) (first : Option (List PortEvent))
+    (asked : Option (List (Option ℕ))) (count : ℕ) (node : Hosted S) (tally : Tally) (before after : Option (List PortEvent))
+    (told : Option (List (Option ℕ))) → after ≡ before
+    → IsSoFar held old first asked count (record { node = node; entries = before; tally = tally }) told
+    → IsSoFar held old first asked count (record { node = node; entries = after; tally = tally }) told
+so_far_asked held old first asked count node tally before after told same =
+    subst (λ (e : Option (List PortEvent)). IsSoFar held old first asked count (record { node = node; entries = e; tally = tally }) told) (sym same)
+
 pub so_far_few : {S : Type 0} (held : S → Held) (old : Hosted S) (first : Option (List PortEvent))
     (asked : Option (List (Option ℕ))) (count left turns : ℕ) (now : Scene S) (told : Option (List (Option ℕ)))
     → IsSoFar held old first asked count now told → count + left ≡ turns → turns < 2 ^ 54

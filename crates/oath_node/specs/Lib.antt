@@ -11,6 +11,7 @@ pub mod Machine
 pub mod Outputs
 pub mod Parcel
 pub mod Parts
+pub mod Reading
 pub mod Recording
 pub mod ReferenceServer
 pub mod Refusals
@@ -22,3 +23,5 @@ pub mod TurnServing
 pub mod TurnSteps
 pub mod Turns
 pub mod TurnsBroken
+pub mod UnlockExamples
+pub mod Unlocking

@@ -51,6 +51,7 @@ mod node;
 mod outputs;
 mod owner;
 mod parts;
+mod reading;
 mod rules;
 mod ruling;
 mod serve_fault;
@@ -58,6 +59,8 @@ mod server;
 mod settling;
 mod turn_laws;
 mod turns;
+mod unlock_laws;
+mod unlocking;
 mod until;
 
 pub use answer_ring::{Answers, Count, Kept};
@@ -77,6 +80,7 @@ pub use laws::{
 };
 pub use node::Node;
 pub use outputs::{Outputs, Scratch};
+pub use reading::StoreReading;
 pub use ruling::{KeptText, Ruling};
 pub use serve_fault::ServeFault;
 pub use server::LineServer;
@@ -86,4 +90,5 @@ pub use turn_laws::{
     turns_can_be_broken,
 };
 pub use turns::{Served, TURNS_END, offer, run_turns, run_turns_until};
+pub use unlock_laws::{unlocks_are_worked, unlocks_can_be_broken, unlocks_change_one_gate};
 pub use until::{Never, Until};

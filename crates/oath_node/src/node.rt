@@ -1,9 +1,11 @@
 //! A node, which answers the lines of clients and the datagrams of the other members, over a store.
 
-ghost use Rattle.std.specs.Prelude.{◌≡◌, ◌⊎◌, ◌≤◌, ◌↔◌, Err, IfErr, IfOk, OnOk, true, false, length};
+ghost use Rattle.std.specs.Prelude.{◌≡◌, ◌⊎◌, ◌<◌, ◌≤◌, ◌↔◌, Err, IfErr, IfOk, OnOk, true, false, length};
 ghost use Rattle.oath_node.specs.Calls.{CommitsNode, Handles, IsOpened, IsRefused, Restarts, Takes};
 ghost use Rattle.oath_node.specs.Hosted.{envelope_at, event_of, is_waiting};
 ghost use Rattle.oath_node.specs.Machine.{Client, Peer, Tick};
+ghost use Rattle.oath_node.specs.Unlocking.{UnlocksNode};
+ghost use Rattle.oath_node.specs.Reading.{ReadsNode};
 ghost use Rattle.oath_node.specs.declared.fault.NodeFault.{NodeFault};
 ghost use Rattle.vote_core.specs.State.{IsPlace};
 
@@ -11,6 +13,8 @@ use crate::event::Event;
 use crate::fault::{NodeFault, OpenFault};
 use crate::outputs::{Outputs, Scratch};
 use crate::parts::Parts;
+use crate::reading::StoreReading;
+use crate::unlocking::unlock;
 use answer_ring::Answers;
 use arrayvec::ArrayVec;
 use floor_store::FloorStore;
@@ -245,6 +249,26 @@ impl<'b, S: FloorStore> Node<'b, S> {
         }
     }
 
+    /// Clears the gate of a token by one put and its commit: the token has no failures, and is open. Makes all earlier
+    /// puts durable too. Changes nothing else, and does not allocate.
+    ///
+    /// # Errors
+    /// - Returns `Stopped` if the node was stopped before. Nothing changes.
+    /// - Returns `Store` if the store fails. The node is stopped until it is restarted.
+    pub fn open_gate(&mut self, token: u32) -> Result<(), NodeFault>
+        requires { token < length self.old.book }
+        ensures { UnlocksNode S.held self.old self.new token result }
+    {
+        self.check_running()?;
+        match unlock(&mut self.parts.store, token) {
+            Ok(()) => Ok(()),
+            Err(fault) => {
+                self.is_running = false;
+                Err(NodeFault::Store(fault))
+            }
+        }
+    }
+
     /// Takes an event and commits it: one step of the node's machine. Does not allocate.
     ///
     /// The outputs may be sent, because the store has committed the event's change. The outputs of a tick borrow their
@@ -271,6 +295,24 @@ impl<'b, S: FloorStore> Node<'b, S> {
         Ok(outputs)
     }
 
+    /// Reads something of the store, which keeps its content.
+    ///
+    /// # Errors
+    /// - Returns `Stopped` if the node was stopped before. Nothing is read.
+    /// - Returns `Store` if the store fails. The node is stopped until it is restarted.
+    pub fn read<R: StoreReading<S>>(&mut self, reading: &mut R) -> Result<(), NodeFault>
+        ensures { ReadsNode S.held self.old self.new result }
+    {
+        self.check_running()?;
+        match reading.read(&mut self.parts.store) {
+            Ok(()) => Ok(()),
+            Err(fault) => {
+                self.is_running = false;
+                Err(NodeFault::Store(fault))
+            }
+        }
+    }
+
     /// Closes the node and returns its store.
     pub fn close(self) -> S
         ensures { result ≡ self.entry.store }
@@ -292,6 +334,13 @@ impl<'b, S: FloorStore> Node<'b, S> {
         ensures { result ≡ is_waiting self.now }
     {
         !self.parts.owners.is_empty()
+    }
+
+    /// Returns the number of clients' lines that wait for votes.
+    pub fn waiting(&self) -> usize
+        ensures { result ≡ length self.now.owners }
+    {
+        self.parts.owners.len()
     }
 
     /// Returns whether the node runs: no fault has stopped it since it was opened or restarted.

@@ -297,14 +297,14 @@ fn counts_of(tally: &Tally) -> Served
 /// The node takes each datagram, a client's with the clock's current time. A tick follows a quiet turn and each 64th
 /// datagram. Datagrams that are already queued join the batch. The node commits the batch once. Only then are its
 /// outputs offered to the port, in order. An output that the port refuses is lost. After each batch `until` is asked
-/// whether the turns end. Does not allocate.
+/// whether the turns end, with the node and the port. Does not allocate.
 ///
 /// # Errors
 /// - Returns `Node` if the node returns a fault. The port gets no output of that batch.
 /// - Returns `Port` at the 16th consecutive fault of the port.
 /// - Returns `Clock` if the clock tells no time. The node doesn't take that datagram, but serves those received before
 ///   it.
-pub fn run_turns_until<'b, S: FloorStore, P: Port, C: Clock, U: Until>(
+pub fn run_turns_until<'b, S: FloorStore, P: Port, C: Clock, U: Until<S, P>>(
     node: &mut Node<'b, S>,
     port: &mut P,
     clock: &mut C,
@@ -333,7 +333,7 @@ pub fn run_turns_until<'b, S: FloorStore, P: Port, C: Clock, U: Until>(
             &mut tally,
             left,
         )?;
-        if until.ends(left, node.is_waiting()) {
+        if until.ends(node, port, left) {
             return Ok(counts_of(&tally));
         }
     }

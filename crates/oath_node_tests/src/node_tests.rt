@@ -65,6 +65,42 @@ const RESTARTED: &[Step] = &[
     ),
 ];
 
+/// An unlocking opens the gate, and keeps the floor, the first free factor, and the answers.
+const UNLOCKED: &[Step] = &[
+    Step::Line(
+        7,
+        100,
+        b"CHECK 1 silver 755224 -",
+        &[Out::Told(7, b"OK 1 0")],
+    ),
+    Step::Line(
+        7,
+        100,
+        b"CHECK 2 silver 000000 -",
+        &[Out::Told(7, b"NO 2 INVALID")],
+    ),
+    Step::Unlocks,
+    Step::Line(
+        7,
+        101,
+        b"CHECK 3 silver 755224 -",
+        &[Out::Told(7, b"NO 3 INVALID")],
+    ),
+    Step::Line(
+        7,
+        101,
+        b"CHECK 1 silver 755224 -",
+        &[Out::Told(7, b"OK 1 0")],
+    ),
+    Step::Unlocks,
+    Step::Line(
+        7,
+        101,
+        b"CHECK 4 silver 287082 -",
+        &[Out::Told(7, b"OK 4 1")],
+    ),
+];
+
 #[test]
 fn ask_bytes(rt: HostRuntime) {
     assert!(rt; count_of_node(rt.alloc(), 2, 3, GRANTED) == Some(4));
@@ -73,6 +109,11 @@ fn ask_bytes(rt: HostRuntime) {
 #[test]
 fn second_vote(rt: HostRuntime) {
     assert!(rt; count_of_node(rt.alloc(), 1, 3, ACCEPTED) == Some(4));
+}
+
+#[test]
+fn unlocking_opens_a_gate(rt: HostRuntime) {
+    assert!(rt; count_of_node(rt.alloc(), 1, 1, UNLOCKED) == Some(7));
 }
 
 #[test]

@@ -78,6 +78,8 @@ pub(crate) enum Step {
     Heard(u8, &'static [u8], &'static [Out]),
     /// A restart, which has no outputs.
     Restarts,
+    /// The unlocking of the first token.
+    Unlocks,
 }
 
 /// Returns whether an item is the output `out`.
@@ -133,6 +135,7 @@ fn goes<S: FloorStore>(node: &mut Node<'_, S>, scratch: &mut Scratch, step: &Ste
         }
         Step::Heard(from, bytes, outs) => takes(node, scratch, Event::Peer { from, bytes }, outs),
         Step::Restarts => node.restart().is_ok(),
+        Step::Unlocks => node.store().tokens() > 0 && node.open_gate(0).is_ok(),
     }
 }
 

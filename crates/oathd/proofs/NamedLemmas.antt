@@ -30,7 +30,7 @@ use Rattle.oathd_words.specs.declared.store_words.ClientWords.{ClientWords}
 use Rattle.oathd_words.specs.declared.store_words.ClusterWords.{ClusterWords}
 use Rattle.oathd.specs.Done.{IsServedSo, IsServedWith}
 use Rattle.oathd.specs.Reload.{IsReloaded}
-use Rattle.oathd.specs.Named.{ActsFor, AreNamedFloorsTold, AreNamesIn, EndsBy, EndsByNames, EndsSo, IsActDone, IsFormerOf, IsKeyOf, IsMemberByNames, IsNamedOf, IsRemadeByNames, IsServedByNames, NamedEndsSo, fault_of, names_asked, names_in, never}
+use Rattle.oathd.specs.Named.{ActsFor, AreNamedFloorsTold, AreNamesIn, EndsBy, EndsByNames, EndsSo, IsActDone, IsFormerOf, IsKeyOf, IsMemberByNames, IsNamedOf, IsRemadeByNames, IsServedByNames, NamedEndsSo, fault_of, names_asked, names_in}
 use Rattle.oathd_floors.specs.Levelled.{HasLevelled}
 use Rattle.oathd_floors.specs.Named.{HasNamed}
 use Rattle.oathd_floors.specs.Remade.{HasRemade}
@@ -142,9 +142,9 @@ module _ {S : Type 0} (g : Ghosts S) (finds : sql.Held S → Type 0) where
         (subst (λ (l : List ℕ). HasRemade g finds named l settings moment 16777216 place former store old new users) same h);
   }
 
-  module _ (IsAsked : Serving → Type 0) (IsCluster : NamedCluster → Type 0) (answers : ℕ → Bool → Bool → Type 0) where
+  module _ (IsAsked : Serving → Type 0) (IsCluster : NamedCluster → Type 0) where
     -- a fault of a node
-    ends_named : (fault : RosterFault) → EndsByNames g finds IsAsked IsCluster answers fault → NamedEndsSo g finds IsAsked IsCluster answers (Err (fault_of fault))
+    ends_named : (fault : RosterFault) → EndsByNames g finds IsAsked IsCluster fault → NamedEndsSo g finds IsAsked IsCluster (Err (fault_of fault))
     ends_named (Command Memory) h = tt
     ends_named (Command CannotWrite) h = h
     ends_named (Command NoClock) h = tt
@@ -158,9 +158,9 @@ module _ {S : Type 0} (g : Ghosts S) (finds : sql.Held S → Type 0) where
     module _ (serving : Serving) (asked : IsAsked serving) (named : NamedCluster) (of_cluster : IsCluster named) (moment : ℕ)
         (is_moment : IsMoment moment) where
       -- the node was served
-      pub served_named : (counts : Served) (users : List ℕ) → HasServedNamed g finds named moment serving answers (Ok counts) users
+      pub served_named : (answers : ℕ → Bool → Bool → Type 0) (counts : Served) (users : List ℕ) → HasServedNamed g finds named moment serving answers (Ok counts) users
           → IsServedByNames g finds IsAsked IsCluster answers
-      served_named counts users h = record {
+      served_named answers counts users h = record {
         serving = serving;
         asked = asked;
         named = named;
@@ -173,8 +173,8 @@ module _ {S : Type 0} (g : Ghosts S) (finds : sql.Held S → Type 0) where
       }
 
       -- the node ended with a fault
-      pub ended_named : (fault : RosterFault) (users : List ℕ) → EndsServingNamed g finds named moment serving answers fault users
-          → NamedEndsSo g finds IsAsked IsCluster answers (Err (fault_of fault))
+      pub ended_named : (fault : RosterFault) (users : List ℕ) → EndsServingNamed g finds named moment serving fault users
+          → NamedEndsSo g finds IsAsked IsCluster (Err (fault_of fault))
       ended_named fault users h = ends_named fault (record {
         serving = serving;
         asked = asked;
@@ -187,7 +187,7 @@ module _ {S : Type 0} (g : Ghosts S) (finds : sql.Held S → Type 0) where
       })
 
       -- the users file has a fault
-      pub users_named : (fault : Fault) → IsOfUsers serving.settings moment fault → NamedEndsSo g finds IsAsked IsCluster answers (Err fault)
+      pub users_named : (fault : Fault) → IsOfUsers serving.settings moment fault → NamedEndsSo g finds IsAsked IsCluster (Err fault)
       users_named (Task fault) is = tt
       users_named (Database fault) is =
           let ends = not_imported serving.settings moment 16777216 fault is.0 is.1 in
@@ -199,14 +199,14 @@ module _ {S : Type 0} (g : Ghosts S) (finds : sql.Held S → Type 0) where
       users_named (Names fault) is = absurd is
 
   -- the clock fails
-  pub clock_named : (IsAsked : Serving → Type 0) (IsCluster : NamedCluster → Type 0) (answers : ℕ → Bool → Bool → Type 0) (fault : Fault) → fault ≡ Database NoClock
-      → NamedEndsSo g finds IsAsked IsCluster answers (Err fault)
-  clock_named IsAsked IsCluster answers fault is = subst (λ (f : Fault). NamedEndsSo g finds IsAsked IsCluster answers (Err f)) (sym is) tt
+  pub clock_named : (IsAsked : Serving → Type 0) (IsCluster : NamedCluster → Type 0) (fault : Fault) → fault ≡ Database NoClock
+      → NamedEndsSo g finds IsAsked IsCluster (Err fault)
+  clock_named IsAsked IsCluster fault is = subst (λ (f : Fault). NamedEndsSo g finds IsAsked IsCluster (Err f)) (sym is) tt
 
-  module _ (IsAsked : Serving → Type 0) (IsCluster : NamedCluster → Type 0) (answers : ℕ → Bool → Bool → Type 0) (serving : Serving) (asked : IsAsked serving) (named : NamedCluster)
+  module _ (IsAsked : Serving → Type 0) (IsCluster : NamedCluster → Type 0) (serving : Serving) (asked : IsAsked serving) (named : NamedCluster)
       (of_cluster : IsCluster named) where
-    same_named : (fault : RosterFault) → EndsByNames g finds (λ other. other ≡ serving) (λ other. other ≡ named) answers fault
-        → EndsByNames g finds IsAsked IsCluster answers fault
+    same_named : (fault : RosterFault) → EndsByNames g finds (λ other. other ≡ serving) (λ other. other ≡ named) fault
+        → EndsByNames g finds IsAsked IsCluster fault
     same_named fault h = record {
       serving = h.serving;
       asked = subst IsAsked (sym h.asked) asked;
@@ -219,8 +219,8 @@ module _ {S : Type 0} (g : Ghosts S) (finds : sql.Held S → Type 0) where
     }
 
     -- the parameters and the cluster were asked for
-    pub named_as_asked : (result : Result Unit Fault) → NamedEndsSo g finds (λ other. other ≡ serving) (λ other. other ≡ named) answers result
-        → NamedEndsSo g finds IsAsked IsCluster answers result
+    pub named_as_asked : (result : Result Unit Fault) → NamedEndsSo g finds (λ other. other ≡ serving) (λ other. other ≡ named) result
+        → NamedEndsSo g finds IsAsked IsCluster result
     named_as_asked (Ok done) h = record {
       serving = h.serving;
       asked = subst IsAsked (sym h.asked) asked;
@@ -271,7 +271,7 @@ module _ {S : Type 0} (g : Ghosts S) (finds : sql.Held S → Type 0) where
     by_names None (Some named) same are h = let e = sym same ∙ are.of_names in absurd cc
     by_names (Some word) None same are h = let e = sym same ∙ are in absurd cc
     by_names (Some word) (Some named) same are h =
-        named_as_asked IsAsked (IsNamedOf text) never serving asked named (record { cluster = cluster; of_text = said; is_in = are }) result h
+        named_as_asked IsAsked (IsNamedOf text) serving asked named (record { cluster = cluster; of_text = said; is_in = are }) result h
 
     -- a node is served by the names that the cluster file gives, or without names
     pub ends_by_names : (given : Option NamedCluster) → AreNamesIn cluster given → EndsBy g finds (λ other. other ≡ serving) given result

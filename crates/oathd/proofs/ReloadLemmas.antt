@@ -3,7 +3,7 @@ use Rattle.std.proofs.Common.{◌≡◌, ◌<◌, ◌∙◌, length, inl, inr, �
 use Rattle.std.specs.Borrow.{Bor}
 use Rattle.std.specs.Global.{Vec}
 use Rattle.std.specs.Option.{option_map}
-use Rattle.std.specs.Prelude.{◌⊎◌, Result, Ok, Err, IfErr, IfOk, IsErrAnd, OnOk, min}
+use Rattle.std.specs.Prelude.{◌⊎◌, Result, Ok, Err, IfErr, IfOk, IsErrAnd, min}
 use Rattle.sqlite.specs.Store.{Ghosts}
 use Rattle.sqlite.specs.Held as sql
 use Rattle.otp_core.specs.Limits.{Limits}
@@ -12,19 +12,15 @@ use Rattle.token_file.specs.Credential.{Credential}
 use Rattle.roster_sql.specs.declared.entry.Entry.{Entry}
 use Rattle.named_store.specs.Entries.{entries_of}
 use Rattle.named_store.specs.Seating.{AreDistinct}
-use Rattle.oath_node.specs.Hosted.{is_waiting}
-use Rattle.oath_node.specs.TurnServing.{EndsTurns}
-use Rattle.oath_node.specs.declared.serve_fault.ServeFault.{ServeFault}
 use Rattle.oath_node.specs.declared.turns.Served.{Served}
-use Rattle.oathd_database.specs.Fault.{serve_end}
 use Rattle.oathd_database.specs.Serving.{IsAgain}
-use Rattle.oathd_database.specs.declared.fault.Fault.{Fault}
 use Rattle.oathd_database.specs.declared.serving.Serving.{Serving}
 use Rattle.oathd_database.specs.Users.{IsImported}
 use Rattle.oathd_roster.specs.Served.{EndsServingNamed, HasServedNamed}
 use Rattle.oathd_roster.specs.Users.{IsUnnamed}
 use Rattle.oathd_roster.specs.declared.cluster.NamedCluster.{NamedCluster}
 use Rattle.oathd_roster.specs.declared.fault.RosterFault.{RosterFault}
+use Rattle.oathd_roster.proofs.AnswerLemmas.{last_answer}
 use Rattle.oathd_words.specs.declared.store_words.ClientWords.{ClientWords}
 use Rattle.oathd_words.specs.declared.store_words.ClusterWords.{ClusterWords}
 use Rattle.oathd_words.specs.declared.store_words.ClusterWords.TheVariants.{Named}
@@ -41,24 +37,6 @@ use Rattle.oathd.proofs.NamedLemmas.{ended_named}
 
 -- ---- One boot
 
-abbrev done : Served → Result Served Fault
-done counts = Ok counts
-
--- the turns ended well
-ended_well : (P : Type 0) (end : Result Served ServeFault) (counts : Served) → done counts ≡ serve_end end → OnOk end P → P
-ended_well P (Ok served) counts is h = h
-ended_well P (Err fault) counts is h = absurd cc
-
--- some turn is served if there is any
-some_less : (turns most kept since now : ℕ) (waits : Bool) → EndsTurns turns most (λ left. answers_of kept since now left waits)
-    → (turns ≡ 0) ⊎ (min kept turns < turns)
-some_less turns most kept since now waits h =
-    let sum = h.sum in
-    elim h.asked [
-      | inl none ↦ inl none
-      | inr last ↦ let some = last.0 in let same = last.1.0 in inr (omega (arith, sum, some, same))
-    ]
-
 -- without a former text the own one is served
 alone_text : (text same : List ℕ) (former : Option (List ℕ)) (served : List ℕ) → former ≡ None → text ≡ same → IsServedText text former served → served ≡ same
 alone_text text same None served none is h = h ∙ is
@@ -74,13 +52,10 @@ module _ {S : Type 0} (g : Ghosts S) (finds : sql.Held S → Type 0) (named : Na
   -- the next boot has fewer turns
   pub fewer_turns : (turns left : ℕ) → serving.turns ≡ turns → left ≡ min kept turns → (turns ≡ 0) ⊎ (left < turns)
   fewer_turns turns left same is =
-      let run = h.served_is in
-      let serves = run.serves.serves in
-      let part = ended_well (EndsTurns serving.turns serves.most (λ rest. answers_of kept since now rest (is_waiting h.last)))
-      run.end counts run.ends serves.ends in
-      let less = some_less serving.turns serves.most kept since now (is_waiting h.last) part in
-      subst (λ (l : ℕ). (turns ≡ 0) ⊎ (l < turns)) (sym is)
-      (subst (λ (t : ℕ). (t ≡ 0) ⊎ (min kept t < t)) same less)
+      elim (last_answer g finds named moment serving (answers_of kept since now) counts users h) [
+        | inl none ↦ inl (sym same ∙ none)
+        | inr last ↦ let less = last.1 in let told = last.3.0 in inr (omega (arith, less, told, same, is))
+      ]
 
   -- the boot
   pub boot_served : (asked : Serving) (boot next : Boot) → IsMoment moment → IsAgain asked serving → serving.turns ≡ boot.turns → users ≡ boot.text.items
@@ -268,17 +243,11 @@ module _ (limits : Limits) (salt text : List ℕ) where
 
 module _ {S : Type 0} (g : Ghosts S) (finds : sql.Held S → Type 0) (named : NamedCluster) (moment : ℕ) (asked serving : Serving) (turns : ℕ) where
   -- a boot ends with a fault of its node
-  pub boot_failed : (kept since now : ℕ) (fault : RosterFault) (users : List ℕ) (result : Result Boot Program) → IsErrAnd result (λ y. y ≡ fault_of fault)
-      → IsMoment moment → IsAgain asked serving → serving.turns ≡ turns → EndsServingNamed g finds named moment serving (answers_of kept since now) fault users
-      → IfErr result (λ fault. (kept : ℕ) × (since : ℕ) × (now : ℕ) × NamedEndsSo g finds (IsOfBoot (λ other. other ≡ asked) turns) (λ other. other ≡ named)
-      (answers_of kept since now) (Err fault))
-  boot_failed kept since now fault users (Ok boot) is at again same h = tt
-  boot_failed kept since now fault users (Err other) is at again same h = (
-    kept,
-    since,
-    now,
-    subst (λ (f : Program). NamedEndsSo g finds (IsOfBoot (λ (other : Serving). other ≡ asked) turns) (λ (other : NamedCluster). other ≡ named)
-        (answers_of kept since now) (Err f)) (sym is)
-        (ended_named g finds (IsOfBoot (λ (other : Serving). other ≡ asked) turns) (λ (other : NamedCluster). other ≡ named) (answers_of kept since now)
-        serving (asked, refl, again, same) named refl moment at fault users h),
-  )
+  pub boot_failed : (fault : RosterFault) (users : List ℕ) (result : Result Boot Program) → IsErrAnd result (λ y. y ≡ fault_of fault)
+      → IsMoment moment → IsAgain asked serving → serving.turns ≡ turns → EndsServingNamed g finds named moment serving fault users
+      → IfErr result (λ fault. NamedEndsSo g finds (IsOfBoot (λ other. other ≡ asked) turns) (λ other. other ≡ named) (Err fault))
+  boot_failed fault users (Ok boot) is at again same h = tt
+  boot_failed fault users (Err other) is at again same h =
+      subst (λ (f : Program). NamedEndsSo g finds (IsOfBoot (λ (other : Serving). other ≡ asked) turns) (λ (other : NamedCluster). other ≡ named) (Err f)) (sym is)
+      (ended_named g finds (IsOfBoot (λ (other : Serving). other ≡ asked) turns) (λ (other : NamedCluster). other ≡ named)
+      serving (asked, refl, again, same) named refl moment at fault users h)

@@ -186,12 +186,11 @@ module _ {S : Type 0} (g : Ghosts S) (finds : sql.Held S → Type 0) where
 
   -- ---- The ends
 
-  -- `IsAsked` holds for the parameters that were asked for, `IsCluster` for the cluster, and `answers` for what is said of
-  -- the end of the turns.
-  module _ (IsAsked : Serving → Type 0) (IsCluster : NamedCluster → Type 0)
-      (answers : ℕ → Bool → Bool → Type 0) where
+  -- `IsAsked` holds for the parameters that were asked for, and `IsCluster` for the cluster.
+  module _ (IsAsked : Serving → Type 0) (IsCluster : NamedCluster → Type 0) where
     -- A node with such parameters was served by names until its turns ended, for the tokens of some users file.
-    pub record IsServedByNames : Type 0 where
+    -- `answers` is what is said of the end of the turns.
+    pub record IsServedByNames (answers : ℕ → Bool → Bool → Type 0) : Type 0 where
       pub serving : Serving
       pub asked : IsAsked serving
       pub named : NamedCluster
@@ -211,12 +210,12 @@ module _ {S : Type 0} (g : Ghosts S) (finds : sql.Held S → Type 0) where
       pub moment : ℕ
       pub is_moment : IsMoment moment
       pub users : List ℕ
-      pub ends : EndsServingNamed g finds named moment serving answers fault users
+      pub ends : EndsServingNamed g finds named moment serving fault users
 
-    -- The end of a command that serves by names. A fault of a task is one of the files that give the parameters, and the
-    -- clock may fail before anything else.
+    -- The end of a command that serves by names. A fault of a task is one of the files that give the parameters, and
+    -- the clock may fail before anything else.
     abbrev pub NamedEndsSo : Result Unit Fault → Type 0
-    NamedEndsSo (Ok done) = IsServedByNames
+    NamedEndsSo (Ok done) = IsServedByNames never
     NamedEndsSo (Err (Task fault)) = Unit {0}
     NamedEndsSo (Err (Database Memory)) = Unit {0}
     NamedEndsSo (Err (Database CannotWrite)) = EndsByNames (Command CannotWrite)
@@ -233,9 +232,9 @@ module _ {S : Type 0} (g : Ghosts S) (finds : sql.Held S → Type 0) where
   -- the end of a command that serves, by names if there are names
   abbrev pub EndsSo : (Serving → Type 0) → List ℕ → Option (List ℕ) → Result Unit Fault → Type 0
   EndsSo IsAsked text None result = ServeEndsSo g finds IsAsked result
-  EndsSo IsAsked text (Some names) result = NamedEndsSo IsAsked (IsNamedOf text) never result
+  EndsSo IsAsked text (Some names) result = NamedEndsSo IsAsked (IsNamedOf text) result
 
   -- the same for a cluster that may have names
   abbrev pub EndsBy : (Serving → Type 0) → Option NamedCluster → Result Unit Fault → Type 0
   EndsBy IsAsked None result = ServeEndsSo g finds IsAsked result
-  EndsBy IsAsked (Some named) result = NamedEndsSo IsAsked (λ other. other ≡ named) never result
+  EndsBy IsAsked (Some named) result = NamedEndsSo IsAsked (λ other. other ≡ named) result

@@ -69,8 +69,8 @@ IsRefused limits salt text refusal =
     ((import : HasImport limits 0 16777216 text) × (import.book ≡ []) × (refusal ≡ NoTokens))
     ⊎ ((fault : RosterFault) × IsUnnamed salt limits 0 16777216 fault text × (refusal ≡ named_reason_of fault))
 
--- The next text and the former one, after a boot that served `served`, for what was found. A text that is refused, and a
--- file that can't be read, change nothing.
+-- The next text and the former one, after a boot that served `served`, for what was found. A text that is refused, and
+-- a file that can't be read, change nothing.
 abbrev pub IsNextOf : Limits → List ℕ → List ℕ → Option Found → List ℕ → Option (List ℕ) → Type 0
 IsNextOf limits salt served None text former = (text ≡ served) × (former ≡ None)
 IsNextOf limits salt served (Some (Unread refusal)) text former = (text ≡ served) × (former ≡ None)
@@ -90,8 +90,8 @@ IsServedText text (Some former) served = (served ≡ text) ⊎ (served ≡ forme
 
 -- ---- The end of a boot
 
--- The answer of a watch that found a change at the moment `since`, if its last moment is `now`, in milliseconds. It keeps
--- the number of turns that are left. It ends the turns if no line waits for votes, or two seconds have passed.
+-- The answer of a watch that found a change at the moment `since`, if its last moment is `now`, in milliseconds. It
+-- keeps the number of turns that are left. It ends the turns if no line waits for votes, or two seconds have passed.
 abbrev pub answers_of : ℕ → ℕ → ℕ → ℕ → Bool → Bool → Type 0
 answers_of kept since now left is_waiting ends =
     (kept ≡ left) × (ends ≡ true → (is_waiting ≡ false) ⊎ (since + 2000 ≤ now))

@@ -8,7 +8,7 @@ ghost use Rattle.floor_sql.specs.Usable.{IsNode};
 ghost use Rattle.oathd_database.specs.File.{FindsFiles};
 ghost use Rattle.oathd_words.specs.declared.store_words.NamedAct.TheVariants as acts;
 ghost use Rattle.otp_core.specs.Range.{IsMoment};
-ghost use Rattle.oathd.specs.Named.{ActsFor, AreNamedFloorsTold, AreNamesIn, IsActDone, IsKeyOf, IsMemberByNames, IsRemadeByNames, NamedEndsSo, never};
+ghost use Rattle.oathd.specs.Named.{ActsFor, AreNamedFloorsTold, AreNamesIn, IsActDone, IsKeyOf, IsMemberByNames, IsRemadeByNames, NamedEndsSo};
 ghost use Rattle.oathd.specs.Serve.{IsOfTask};
 
 use crate::databases::{Site, present_moment};
@@ -86,7 +86,7 @@ impl<'a> Site<'_, 'a> {
         held: &mut O,
     ) -> Result<(), Fault<'a>>
         ensures { NamedEndsSo ⟦<FileStore<FileFrom<S>> as Store>⟧ (FindsFiles (image_at S.Start))
-            (λ other. other ≡ serving.entry) (λ named. named ≡ cluster.now) never result }
+            (λ other. other ≡ serving.entry) (λ named. named ≡ cluster.now) result }
     {
         let moment = present_moment(self.rt)?;
         let users = self.users(serving.settings, moment)?;
@@ -100,7 +100,7 @@ impl<'a> Site<'_, 'a> {
             cluster,
             found,
             &mut KeptSocket::new(),
-            &mut Never,
+            Never,
             held,
         )?;
         Ok(())

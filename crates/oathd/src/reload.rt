@@ -146,10 +146,9 @@ impl<'a> Site<'_, 'a> {
         ensures boot { IfOk result (IsBoot ⟦<FileStore<FileFrom<S>> as Store>⟧ (FindsFiles (image_at S.Start))
             (λ asked. asked ≡ serving.now) (λ named. named ≡ cluster.now) boot) }
         ensures fewer { IfOk result (λ next. (boot.turns ≡ 0) ⊎ (next.turns < boot.turns)) }
-        ensures fault { IfErr result (λ fault. (kept : ℕ) × (since : ℕ) × (now : ℕ) × NamedEndsSo
-            ⟦<FileStore<FileFrom<S>> as Store>⟧ (FindsFiles (image_at S.Start))
-            (IsOfBoot (λ asked. asked ≡ serving.now) boot.turns) (λ named. named ≡ cluster.now)
-            (answers_of kept since now) (Err fault)) }
+        ensures fault { IfErr result (λ fault. NamedEndsSo ⟦<FileStore<FileFrom<S>> as Store>⟧
+            (FindsFiles (image_at S.Start)) (IsOfBoot (λ asked. asked ≡ serving.now) boot.turns)
+            (λ named. named ≡ cluster.now) (Err fault)) }
         ensures unlogged { serving.now.is_logged ≡ false → held.new ≡ held.old }
     {
         let (alloc, rt) = (self.alloc, self.rt);
@@ -164,9 +163,9 @@ impl<'a> Site<'_, 'a> {
             return Err(Fault::Database(oathd_database::Fault::Memory));
         };
         let (settings, member) = (serving.settings, serving.place.me());
-        let mut watch = Watch::new(alloc, rt, self.users, settings, member, &text, taken);
+        let watch = Watch::new(alloc, rt, self.users, settings, member, &text, taken);
         let found = self.found(start);
-        let _served = serve_named_store(
+        let (_served, watch) = serve_named_store(
             alloc,
             rt,
             text.as_slice(),
@@ -175,7 +174,7 @@ impl<'a> Site<'_, 'a> {
             cluster,
             found,
             socket,
-            &mut watch,
+            watch,
             held,
         )?;
         let (left, found, taken) = watch.end();

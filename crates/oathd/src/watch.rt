@@ -7,7 +7,7 @@ ghost use Rattle.oathd.specs.declared.fault.Fault.{Fault};
 
 use crate::refusal::{Refusal, refusal_of};
 use crate::users::users_text;
-use oath_node::Until;
+use oathd_database::Stop;
 use otp_core::{MOMENTS_END, Settings};
 use std::alloc::Global;
 use std::fs;
@@ -18,8 +18,8 @@ use std::time::Clock as TimeSource;
 /// The number of milliseconds from one look at the file to the next.
 const LOOK_MILLIS: u64 = 1000;
 
-/// The maximum number of milliseconds for which a found change waits for the lines that wait for votes, and for the time
-/// of the member.
+/// The maximum number of milliseconds for which a found change waits for the lines that wait for votes, and for the
+/// time of the member.
 const MAX_WAIT_MILLIS: u64 = 2000;
 
 /// The number of milliseconds from the time of one member to that of the next one. All nine have one in two seconds.
@@ -196,12 +196,12 @@ impl<'w, F: Files + TimeSource> Watch<'w, F> {
     }
 }
 
-impl<F: Files + TimeSource> Until for Watch<'_, F> {
+impl<F: Files + TimeSource> Stop for Watch<'_, F> {
     ghost use Rattle.oathd.specs.Reload.{answers_of};
 
     ghost answers = { λ watch. answers_of watch.left watch.since watch.last };
 
-    fn ends(&mut self, left: u64, is_waiting: bool) -> bool {
+    fn stops(&mut self, is_waiting: bool, left: u64) -> bool {
         self.left = left;
         let Some(now) = millis_of(self.outside) else {
             return false;

@@ -12,6 +12,7 @@ mod GateLemmas
 mod UnlockLemmas
 mod ReachLemmas
 mod ServedLemmas
+pub mod StretchLemmas
 mod KeyLemmas
 mod BootLemmas
 mod AnewLemmas

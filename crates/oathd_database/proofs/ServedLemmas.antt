@@ -4,6 +4,7 @@ use Rattle.std.specs.Prelude.{Result}
 use Rattle.std.proofs.lemmas.Option.{same_Some}
 use Rattle.std.specs.declared.net.socket_addr.SocketAddrV4.{SocketAddrV4}
 use Rattle.clients_file.specs.declared.clients.ClientEntry.{ClientEntry}
+use Rattle.clients_file.specs.declared.clients.OperatorEntry.{OperatorEntry}
 use Rattle.datagram_port.specs.Port.{PortEvent}
 use Rattle.datagram_port.specs.Setup.{Keyed, Setup, behind_gate}
 use Rattle.floor_store.specs.Held.{Held}
@@ -12,14 +13,15 @@ use Rattle.oath_node.specs.TurnServing.{Serves}
 use Rattle.oath_node.specs.declared.serve_fault.ServeFault.{ServeFault}
 use Rattle.oath_node.specs.declared.turns.Served.{Served}
 use Rattle.sealed_port.specs.Gate.{GateRecord}
+use Rattle.sealed_port.specs.declared.operator.Operator.{Operator}
 use Rattle.sealed_port.specs.Setup.{AreHeard, gate_setup, keyed_of}
 use Rattle.udp_port.specs.Calls.{SocketCalls, events_of_calls}
 use Rattle.udp_port.specs.Setup.{setup_of}
 use Rattle.oathd_database.specs.Commands.{IsServed}
 use Rattle.oathd_database.specs.Fault.{serve_end}
 use Rattle.oathd_database.specs.Front.{IsFrontOf}
-use Rattle.oathd_database.specs.Gate.{clients_from}
-use Rattle.oathd_database.specs.Setup.{keyed_from, setup_behind, setup_for}
+use Rattle.oathd_database.specs.Gate.{clients_from, operators_from}
+use Rattle.oathd_database.specs.Setup.{keyed_from, keyed_operator, setup_behind, setup_for}
 use Rattle.oathd_database.specs.declared.fault.Fault.{Fault}
 use Rattle.oathd_database.specs.declared.gate.ClientLines.{ClientLines}
 use Rattle.oathd_database.specs.declared.gate.ClientLines.TheVariants as lines
@@ -32,9 +34,15 @@ clients_keyed : (ahead start : ℕ) (entries : List ClientEntry) → map keyed_o
 clients_keyed ahead start [] = refl
 clients_keyed ahead start (entry ∷ entries) = ap (λ (all : List Keyed). keyed_from ahead entry ∷ all) (clients_keyed ahead start entries)
 
-abbrev setup_with : ℕ → List Keyed → List ℕ → Option ℕ → List SocketAddrV4 → Setup
-setup_with node clients plain most members =
-    behind_gate (record { node = node; clients = clients; operators = []; plain = plain; most = most }) (setup_of true false members)
+operators_keyed : (ahead start : ℕ) (entries : List OperatorEntry)
+    → map (λ (operator : Operator). keyed_of operator.holder) (operators_from ahead start entries) ≡ map (keyed_operator ahead) entries
+operators_keyed ahead start [] = refl
+operators_keyed ahead start (entry ∷ entries) =
+    ap (λ (all : List Keyed). keyed_operator ahead entry ∷ all) (operators_keyed ahead start entries)
+
+abbrev setup_with : ℕ → List Keyed → List Keyed → List ℕ → Option ℕ → List SocketAddrV4 → Setup
+setup_with node clients operators plain most members =
+    behind_gate (record { node = node; clients = clients; operators = operators; plain = plain; most = most }) (setup_of true false members)
 
 -- the port behind the front of the lines is the port for these lines
 pub setup_is : (node : ℕ) (members : List SocketAddrV4) (given : ClientLines) (front : Front) → IsFrontOf node given front
@@ -49,7 +57,10 @@ setup_is node members (lines.Of clients) Anybody is = absurd is
 setup_is node members (lines.Of clients) ThisMachine is = absurd is
 setup_is node members (lines.Of clients) (Gate gate) is =
     ap (λ (one : GateRecord). behind_gate (gate_setup one) (setup_of true false members)) is.2
-    ∙ ap (λ (all : List Keyed). setup_with node all clients.plain.items clients.failures members) (clients_keyed clients.ahead is.0 clients.clients.items)
+    ∙ ap (λ (all : List Keyed). setup_with node all (map (λ (operator : Operator). keyed_of operator.holder) (operators_from clients.ahead is.0 clients.operators.items))
+    clients.plain.items clients.failures members) (clients_keyed clients.ahead is.0 clients.clients.items)
+    ∙ ap (λ (all : List Keyed). setup_with node (map (keyed_from clients.ahead) clients.clients.items) all clients.plain.items clients.failures members)
+    (operators_keyed clients.ahead is.0 clients.operators.items)
 
 -- ---- a run over a port
 

@@ -18,6 +18,8 @@ pub mod Reach
 pub mod Serving
 pub mod Setup
 pub mod SetupExamples
+pub mod StretchExamples
+pub mod Stretches
 pub mod Tables
 pub mod Text
 pub mod Unlock

@@ -1,8 +1,9 @@
 -- The port of a served node: the members and the clients that it takes, and the events that it may have.
-use Rattle.std.specs.Prelude.{◌≡◌, ℕ, true, false, List, [], map, Option, Some, None}
+use Rattle.std.specs.Prelude.{◌≡◌, ℕ, true, false, List, map, Option, Some, None}
 use Rattle.std.specs.declared.net.socket_addr.SocketAddrV4.{SocketAddrV4}
 use Rattle.clients_file.specs.declared.clients.ClientEntry.{ClientEntry}
 use Rattle.clients_file.specs.declared.clients.Clients.{Clients}
+use Rattle.clients_file.specs.declared.clients.OperatorEntry.{OperatorEntry}
 use Rattle.datagram_port.specs.Port.{PortEvent}
 use Rattle.datagram_port.specs.Setup.{GateSetup, Keyed, Setup, behind_gate}
 use Rattle.sealed_port.specs.Setup.{AreHeard, gate_setup}
@@ -17,12 +18,16 @@ use Rattle.oathd_database.specs.declared.gate.Front.TheVariants.{Anybody, ThisMa
 abbrev pub keyed_from : ℕ → ClientEntry → Keyed
 keyed_from ahead entry = record { number = entry.number; key = entry.key; ahead = ahead }
 
+-- an operator of a clients file whose requests may be `ahead` seconds ahead of the clock
+abbrev pub keyed_operator : ℕ → OperatorEntry → Keyed
+keyed_operator ahead entry = record { number = entry.number; key = entry.key; ahead = ahead }
+
 -- the gate of a clients file before a node
 abbrev pub gate_setup_from : ℕ → Clients → GateSetup
 gate_setup_from node clients = record {
   node = node;
   clients = map (keyed_from clients.ahead) clients.clients.items;
-  operators = [];
+  operators = map (keyed_operator clients.ahead) clients.operators.items;
   plain = clients.plain.items;
   most = clients.failures;
 }

@@ -30,7 +30,10 @@ fn write_pass<W: Write>(writer: &mut W, number: u64, pass: Pass) -> Result<(), F
 }
 
 /// Writes passes in order, one on each line, numbered from 1.
-fn write_passes<W: Write>(writer: &mut W, passes: &[Pass]) -> Result<(), Fault>
+///
+/// # Errors
+/// Returns `CannotWrite` if the output fails. A prefix of the text may have been written.
+pub fn write_passes<W: Write>(writer: &mut W, passes: &[Pass]) -> Result<(), Fault>
     ensures written { OnOk result (Appends (W.contents writer.old) (W.contents writer.new) (audit_text passes.now)) }
     ensures fault { IfErr result (λ fault. fault ≡ Fault.CannotWrite) }
 {

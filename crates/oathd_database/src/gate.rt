@@ -2,7 +2,7 @@
 
 ghost use Rattle.std.specs.Prelude.{◌≡◌, ◌≤◌, ◌<◌, ◌^◌, IfErr, IfOk};
 ghost use Rattle.oathd_database.specs.Front.{IsFrontFault, IsFrontOf};
-ghost use Rattle.oathd_database.specs.Gate.{IsSaid, clients_from, gate_from};
+ghost use Rattle.oathd_database.specs.Gate.{IsSaid, clients_from, gate_from, operators_from};
 ghost use Rattle.oathd_database.specs.Serving.{AreAgain};
 
 use crate::fault::Fault;
@@ -10,7 +10,7 @@ use clients_file::{ClientEntry, Clients, OperatorEntry};
 use datagram_port::Clock;
 use otp_core::MOMENTS_END;
 use replay_window::Ahead;
-use sealed_port::{Client, Failures, Gate};
+use sealed_port::{Client, Failures, Gate, Operator};
 use sealed_wire::ClientKey;
 use std::alloc::{AllocError, Global};
 use std::time::Clock as TimeSource;
@@ -96,8 +96,30 @@ fn clients_from(
         .map_err(|_| Fault::Memory)
 }
 
-/// Returns the gate before the node `node`, for a process that begins at the second `start` of the clock. It knows no
-/// operator.
+/// Returns the operators of a process that begins at the second `start` of the clock.
+fn operators_from(
+    alloc: Global,
+    entries: Vec<OperatorEntry>,
+    ahead: Ahead,
+    start: u64,
+) -> Result<Vec<Operator>, Fault>
+    requires { start < 2 ^ 40 }
+    ensures operators { IfOk result (λ operators. operators.items ≡ operators_from ahead start entries.items) }
+    ensures fault { IfErr result (λ fault. fault ≡ Fault.Memory) }
+{
+    entries
+        .into_iter()
+        .map(|entry| {
+            Operator::new(
+                Client::new(entry.number, entry.key, ahead, start),
+                entry.right,
+            )
+        })
+        .collect(alloc)
+        .map_err(|_| Fault::Memory)
+}
+
+/// Returns the gate before the node `node`, for a process that begins at the second `start` of the clock.
 fn gate_from(alloc: Global, node: u8, clients: Clients, start: u64) -> Result<Gate, Fault>
     requires start { start < 2 ^ 40 }
     requires ahead { (1 ≤ clients.ahead) × (clients.ahead ≤ 60) }
@@ -107,7 +129,7 @@ fn gate_from(alloc: Global, node: u8, clients: Clients, start: u64) -> Result<Ga
     let ahead = Ahead::new(clients.ahead).unwrap();
     let known = clients_from(alloc, clients.clients, ahead, start)?;
     let failures = Failures::new(clients.failures);
-    let operators = Vec::new(alloc);
+    let operators = operators_from(alloc, clients.operators, ahead, start)?;
     Ok(Gate::new(node, known, operators, clients.plain, failures))
 }
 

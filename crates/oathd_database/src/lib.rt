@@ -4,6 +4,7 @@
 //! For [`init_store`], [`init_member_store`] and [`init_lost_store`] the file may be missing or empty.
 #![tactic(auto)]
 
+mod attend;
 mod audit;
 mod database;
 mod export;
@@ -25,10 +26,12 @@ mod rows;
 mod serve;
 mod serving;
 mod setup_laws;
+mod stretch_laws;
 mod unlock;
 mod users;
 
-pub use audit::{audit_store, write_audit};
+pub use attend::{Attend, Attended, Stop};
+pub use audit::{audit_store, write_audit, write_passes};
 pub use database::{Database, open_store};
 pub use export::{export_store, write_rows};
 pub use fault::Fault;
@@ -58,5 +61,9 @@ pub use serve::{
 };
 pub use serving::Serving;
 pub use setup_laws::{lines_given_again_can_be_broken, setups_are_worked, setups_can_be_broken};
+pub use stretch_laws::{
+    acts_can_be_broken, stretches_are_counted, stretches_can_be_broken,
+    stretches_without_acts_are_one,
+};
 pub use unlock::{UnlockFault, open_gate, unlock_store};
 pub use users::{Users, drifted_floors, read_users};

@@ -31,8 +31,17 @@ fn same_key(key: &ClusterKey) -> ClusterKey
 }
 
 impl<'a> NodeKey<'a> {
+    /// Returns the cluster's own key.
+    pub fn own(&self) -> &ClusterKey
+        ensures { result.now ≡ own_key self.now }
+    {
+        match self {
+            NodeKey::Own(key) | NodeKey::Shared(key, _) => key,
+        }
+    }
+
     /// Returns the same source of a key.
-    pub(crate) fn again(&self) -> Self
+    pub fn again(&self) -> Self
         ensures { result ≡ self.now }
     {
         match self {

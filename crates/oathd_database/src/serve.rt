@@ -2,7 +2,7 @@
 
 ghost use Rattle.std.specs.Prelude.{◌≡◌, ◌<◌, ◌^◌, [], None, false, true, length, Result, Ok, IfErr, IfOk, IfSome, IsSome, OnOk};
 ghost use Rattle.std.specs.Io.KnownBytes.{Appends};
-ghost use Rattle.oath_node.specs.TurnServing.{Serves, ServesUntil};
+ghost use Rattle.oath_node.specs.TurnServing.{Serves};
 ghost use Rattle.oath_node.specs.declared.serve_fault.ServeFault.{ServeFault};
 ghost use Rattle.oath_node.specs.declared.turns.Served.{Served};
 ghost use Rattle.oath_node.specs.Calls.{IsOpened};
@@ -11,7 +11,9 @@ ghost use Rattle.oathd_database.specs.Fault.{IsOpenFault, serve_end};
 ghost use Rattle.floor_store.specs.Range.{IsCount};
 ghost use Rattle.oathd_database.specs.Log.{first_lines, start_at};
 ghost use Rattle.oathd_database.specs.Setup.{setup_behind};
+ghost use Rattle.oathd_database.specs.Stretches.{ServesIn, counts_after};
 
+use crate::attend::{Attend, Attended};
 use crate::database::{Database, open_store};
 use crate::fault::Fault;
 use crate::gate::{Front, front_of};
@@ -19,10 +21,10 @@ use crate::node_key::tag_key;
 use crate::serving::Serving;
 use arrayvec::ArrayVec;
 use cluster_file::fingerprint;
-use datagram_port::{Clock, Port};
+use datagram_port::Clock;
 use floor_store::FloorStore;
 use node_log::{Gatekeeper, LogPort, MAX_OTHERS, Member, Roster, Start, write_roster, write_start};
-use oath_node::{Never, Node, Served, Until, run_turns_until};
+use oath_node::{Never, Node, ServeFault, Served, run_turns_until};
 use otp_core::Settings;
 use sealed_port::SealedPort;
 use sqlite::Alter;
@@ -65,29 +67,57 @@ pub fn open_node<'b, S: FloorStore + Drop>(
     }
 }
 
-/// Serves a node over a port for `turns` receives, or until `until` ends them.
+/// Returns the counts of a run of turns together with those of the runs before it. None goes beyond `u64::MAX`.
+fn counts_after(before: Option<Served>, served: Served) -> Served
+    ensures { result ≡ counts_after before served }
+{
+    match before {
+        Some(counts) => Served {
+            received: counts.received.saturating_add(served.received),
+            replied: counts.replied.saturating_add(served.replied),
+        },
+        None => served,
+    }
+}
+
+/// Serves a node over a port for `turns` receives, or until `until` ends them. Where `until` acts on the node then, the
+/// turns that are left are served after that.
 ///
 /// # Errors
 /// - Returns `Store` if the node's store fails, and `Store(Spent)` if no proposal number of this boot is left.
 /// - Returns `Socket` at the 16th consecutive fault of the port.
 /// - Returns `NoClock` if the clock tells no time.
-pub fn serve_node<S: FloorStore, P: Port, C: Clock, U: Until>(
+pub fn serve_node<S: FloorStore, P: Gatekeeper, C: Clock, U: Attend<S>>(
     node: &mut Node<'_, S>,
     port: &mut P,
     clock: &mut C,
     turns: u64,
-    until: &mut U,
+    until: &mut Attended<U>,
 ) -> Result<Served, Fault>
     requires { turns < 2 ^ 54 }
     ensures turns { (end : Result Served ServeFault)
-        × ServesUntil S.held node.old node.new (P.events port.old) (P.events port.new)
-        (C.moments clock.old) (C.moments clock.new) turns (U.answers until.new) end × (result ≡ serve_end end) }
+        × ServesIn S.held U.acts node.old node.new (P.events port.old) (P.events port.new)
+        (C.moments clock.old) (C.moments clock.new) turns (U.answers until.new.attendant) end
+        × (result ≡ serve_end end) }
     ensures stays { P.setup port.new ≡ P.setup port.old }
 {
-    match run_turns_until(node, port, clock, turns, until) {
-        Ok(served) => Ok(served),
-        Err(fault) => Err(Fault::from(fault)),
+    let mut left = turns;
+    let mut before = None;
+    while left > 0 {
+        let served = run_turns_until(node, port, clock, left, until)?;
+        let all = counts_after(before, served);
+        if until.left == 0 {
+            return Ok(all);
+        }
+        match until.attendant.act(node, port) {
+            Ok(true) => before = Some(all),
+            Ok(false) => return Ok(all),
+            Err(fault) => return Err(Fault::from(ServeFault::from(fault))),
+        }
+        left = until.left;
     }
+    let served = run_turns_until(node, port, clock, 0, until)?;
+    Ok(counts_after(before, served))
 }
 
 /// Binds a socket to an address of this machine. Its receives wait at most 200 milliseconds.
@@ -185,12 +215,12 @@ fn write_first_lines<W: Write>(writer: &mut W, log: &ServeLog) -> io::Result<()>
 
 /// Serves a node over a port, as [`serve_node`] does, with a log. A member is heard under `key`. A failed write ends
 /// the log, but not the node.
-fn serve_logged<S: FloorStore, P: Gatekeeper + Drop, N: TimeSource, W: Write, U: Until>(
+fn serve_logged<S: FloorStore, P: Gatekeeper + Drop, N: TimeSource, W: Write, U: Attend<S>>(
     node: &mut Node<'_, S>,
     port: P,
     outside: &N,
     turns: u64,
-    until: &mut U,
+    until: &mut Attended<U>,
     key: &ClusterKey,
     log: ServeLog,
     writer: &mut W,
@@ -198,13 +228,14 @@ fn serve_logged<S: FloorStore, P: Gatekeeper + Drop, N: TimeSource, W: Write, U:
     requires turns { turns < 2 ^ 54 }
     requires fresh { IfSome (P.events port) (λ entries. entries ≡ []) }
     ensures turns { (end : Result Served ServeFault) × (last : P)
-        × ServesUntil S.held node.old node.new (P.events port) (P.events last) None None turns (U.answers until.new)
-        end × (P.setup last ≡ P.setup port) × (result ≡ serve_end end) }
+        × ServesIn S.held U.acts node.old node.new (P.events port) (P.events last) None None turns
+        (U.answers until.new.attendant) end × (P.setup last ≡ P.setup port) × (result ≡ serve_end end) }
 {
     let _written = write_first_lines(writer, &log);
     let mut clock = SystemClock::new(outside);
     let mut port = LogPort::new(port, writer, key, log.members);
     let served = serve_node(node, &mut port, &mut clock, turns, until)?;
+    port.flush();
     port.end(served.received, served.replied);
     Ok(served)
 }
@@ -215,12 +246,12 @@ fn serve_logged<S: FloorStore, P: Gatekeeper + Drop, N: TimeSource, W: Write, U:
 ///
 /// # Errors
 /// Returns the errors of [`serve_node`].
-pub fn serve_port<S: FloorStore, P: Gatekeeper + Drop, N: TimeSource, W: Write, U: Until>(
+pub fn serve_port<S: FloorStore, P: Gatekeeper + Drop, N: TimeSource, W: Write, U: Attend<S>>(
     node: &mut Node<'_, S>,
     port: P,
     outside: &N,
     turns: u64,
-    until: &mut U,
+    until: &mut Attended<U>,
     key: &ClusterKey,
     log: Option<ServeLog>,
     writer: &mut W,
@@ -228,8 +259,8 @@ pub fn serve_port<S: FloorStore, P: Gatekeeper + Drop, N: TimeSource, W: Write, 
     requires turns { turns < 2 ^ 54 }
     requires fresh { IfSome (P.events port) (λ entries. entries ≡ []) }
     ensures turns { (end : Result Served ServeFault) × (last : P)
-        × ServesUntil S.held node.old node.new (P.events port) (P.events last) None None turns (U.answers until.new)
-        end × (P.setup last ≡ P.setup port) × (result ≡ serve_end end) }
+        × ServesIn S.held U.acts node.old node.new (P.events port) (P.events last) None None turns
+        (U.answers until.new.attendant) end × (P.setup last ≡ P.setup port) × (result ≡ serve_end end) }
     ensures unlogged { log ≡ None → writer.new ≡ writer.old }
 {
     match log {
@@ -237,7 +268,9 @@ pub fn serve_port<S: FloorStore, P: Gatekeeper + Drop, N: TimeSource, W: Write, 
         None => {
             let mut port = port;
             let mut clock = SystemClock::new(outside);
-            serve_node(node, &mut port, &mut clock, turns, until)
+            let served = serve_node(node, &mut port, &mut clock, turns, until)?;
+            port.flush();
+            Ok(served)
         }
     }
 }
@@ -259,7 +292,8 @@ fn serve_turns<S: FloorStore, P: Gatekeeper + Drop, N: TimeSource, W: Write>(
         × (P.setup last ≡ P.setup port) × (result ≡ serve_end end) }
     ensures unlogged { log ≡ None → writer.new ≡ writer.old }
 {
-    serve_port(node, port, outside, turns, &mut Never, key, log, writer)
+    let mut until = Attended::new(Never);
+    serve_port(node, port, outside, turns, &mut until, key, log, writer)
 }
 
 /// Serves a node over a socket, as [`serve_node`] does, for the clients that `front` lets through, with a log if there

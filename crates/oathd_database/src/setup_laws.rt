@@ -9,7 +9,7 @@ ghost use Rattle.oathd_database.specs.Broken.{one_item};
 ghost use Rattle.oathd_database.specs.Gate.{gate_from};
 ghost use Rattle.oathd_database.specs.Serving.{AreAgain};
 ghost use Rattle.oathd_database.specs.Setup.{AreEventsOf, setup_behind, setup_for};
-ghost use Rattle.oathd_database.specs.SetupExamples.{byte_of, clients_of, two_members};
+ghost use Rattle.oathd_database.specs.SetupExamples.{byte_of, clients_of, operators_of, two_members};
 ghost use Rattle.oathd_database.specs.declared.gate.ClientLines.TheVariants.{Anybody, Of, ThisMachine};
 ghost use Rattle.oathd_database.specs.declared.gate.Front.TheVariants as fronts;
 
@@ -34,10 +34,22 @@ pub fn setups_are_worked()
             most = None;
           });
         } }
+    ensures operators { setup_for 3 two_members (Of (operators_of (5 ∷ [])))
+        ≡ record (setup_for 1 two_members Anybody) {
+          gate = Some (record {
+            node = 3;
+            clients = record { number = 7; key = []; ahead = 2 } ∷ [];
+            operators = record { number = 8; key = 5 ∷ []; ahead = 2 } ∷ [];
+            plain = [];
+            most = None;
+          });
+        } }
     ensures behind_nothing { setup_behind two_members fronts.Anybody ≡ setup_for 1 two_members Anybody }
     ensures behind_a_filter { setup_behind two_members fronts.ThisMachine ≡ setup_for 1 two_members ThisMachine }
     ensures behind_a_gate { setup_behind two_members (fronts.Gate (gate_from 3 10 (clients_of (5 ∷ []))))
         ≡ setup_for 3 two_members (Of (clients_of (5 ∷ []))) }
+    ensures behind_a_gate_for_operators { setup_behind two_members (fronts.Gate (gate_from 3 10 (operators_of (5 ∷ []))))
+        ≡ setup_for 3 two_members (Of (operators_of (5 ∷ []))) }
 {}
 
 /// Counterexamples: the port of a node has other events, or another setup, for other members or other lines.
@@ -71,6 +83,8 @@ pub fn setups_can_be_broken()
     ensures of_no_gate { setup_for 1 two_members (Of (clients_of [])) ≡ setup_for 1 two_members Anybody → ⊥ }
     ensures of_another_key { setup_for 1 two_members (Of (clients_of (5 ∷ [])))
         ≡ setup_for 1 two_members (Of (clients_of (6 ∷ []))) → ⊥ }
+    ensures of_another_operator { setup_for 1 two_members (Of (operators_of (5 ∷ [])))
+        ≡ setup_for 1 two_members (Of (operators_of (6 ∷ []))) → ⊥ }
     ensures of_another_node { setup_for 1 two_members (Of (clients_of (5 ∷ [])))
         ≡ setup_for 2 two_members (Of (clients_of (5 ∷ []))) → ⊥ }
 {}

@@ -2,10 +2,12 @@
 
 use datagram_port::{Coming, ListClock, ListPort, PortEntry, Sender};
 use floor_sql::SqlStore;
-use floor_store::StoreFault;
-use oath_node::{Never, Served};
+use floor_store::{FloorStore, StoreFault};
+use node_log::Gatekeeper;
+use oath_node::{Never, Node, NodeFault, Served};
 use oathd_database::{
-    Database, Fault, init_store, open_node, open_store, serve_node, write_audit, write_rows,
+    Attend, Attended, Database, Fault, init_store, open_node, open_store, serve_node, write_audit,
+    write_rows,
 };
 use otp_core::Settings;
 use sqlite::{Connection, MemStore};
@@ -66,12 +68,13 @@ fn written(alloc: Global, database: InMemory, text: &[u8]) -> Result<InMemory, F
 }
 
 /// Returns the database of node 1's store after the node served the datagrams of a port, and the end of the turns.
-fn turned(
+fn turned<U: Attend<SqlStore<MemStore>>>(
     alloc: Global,
     database: InMemory,
     port: &mut ListPort<'_>,
     moments: &[u64],
     turns: u32,
+    until: &mut Attended<U>,
 ) -> Result<(InMemory, Result<Served, Fault>), Fault> {
     let settings = Settings::default();
     let (Some(key), Some(place)) = (ClusterKey::new(&[0; 32]), Place::new(1, 1)) else {
@@ -80,7 +83,7 @@ fn turned(
     let (users, store) = open_store(alloc, SILVER, settings, Some(1), database)?;
     let mut node = open_node(alloc, &users.book, settings, place, &key, store)?;
     let mut clock = ListClock::new(alloc, moments);
-    let end = serve_node(&mut node, port, &mut clock, u64::from(turns), &mut Never);
+    let end = serve_node(&mut node, port, &mut clock, u64::from(turns), until);
     Ok((closed(node.close()), end))
 }
 
@@ -107,7 +110,14 @@ fn keeps_a_code(alloc: Global) -> Result<bool, Fault> {
     }];
     let mut port = ListPort::new(alloc, &comings);
     let database = written(alloc, made(alloc, 1)?, FRESH)?;
-    let (database, end) = turned(alloc, database, &mut port, &[100], 3)?;
+    let (database, end) = turned(
+        alloc,
+        database,
+        &mut port,
+        &[100],
+        3,
+        &mut Attended::new(Never),
+    )?;
     let _database = written(alloc, database, USED)?;
     let (received, replied) = (1, 1);
     Ok(end == Ok(Served { received, replied }) && is_offered(&port, b"OK 1 0"))
@@ -121,7 +131,14 @@ fn keeps_what_it_served(rt: HostRuntime) {
 /// Returns the end of the turns of node 1 without a clock, over a port with the given events.
 fn end_of(alloc: Global, comings: &[Coming<'_>]) -> Result<Served, Fault> {
     let mut port = ListPort::new(alloc, comings);
-    let (_database, end) = turned(alloc, made(alloc, 1)?, &mut port, &[], 17)?;
+    let (_database, end) = turned(
+        alloc,
+        made(alloc, 1)?,
+        &mut port,
+        &[],
+        17,
+        &mut Attended::new(Never),
+    )?;
     end
 }
 
@@ -134,4 +151,62 @@ fn names_what_ended_the_turns(rt: HostRuntime) {
     }];
     assert!(rt; end_of(rt.alloc(), &[Coming::Fault; 16]) == Err(Fault::Socket));
     assert!(rt; end_of(rt.alloc(), &line) == Err(Fault::NoClock));
+}
+
+/// Ends the turns after each batch, and lets them go on after the first one.
+#[derive(Drop)]
+struct GoesOnOnce {
+    went_on: bool,
+}
+
+impl<S: FloorStore> Attend<S> for GoesOnOnce {
+    ghost use Rattle.std.specs.Prelude.{⊤};
+
+    ghost acts = { λ _ _ _. ⊤ };
+
+    fn ends<P: Gatekeeper>(&mut self, _node: &Node<'_, S>, _port: &mut P, _left: u64) -> bool {
+        true
+    }
+
+    fn act<P: Gatekeeper>(
+        &mut self,
+        _node: &mut Node<'_, S>,
+        _port: &mut P,
+    ) -> Result<bool, NodeFault> {
+        if self.went_on {
+            return Ok(false);
+        }
+        self.went_on = true;
+        Ok(true)
+    }
+}
+
+/// Returns the end of five turns in two stretches, and the number of turns that are left after it.
+fn end_of_stretches(alloc: Global) -> Result<(Result<Served, Fault>, u64), Fault> {
+    let line = Coming::Datagram {
+        sender: Sender::Client(7),
+        bytes: b"CHECK".as_slice(),
+    };
+    let comings = [line, Coming::Pause, line, line];
+    let mut port = ListPort::new(alloc, &comings);
+    let mut until = Attended::new(GoesOnOnce { went_on: false });
+    let (_database, end) = turned(
+        alloc,
+        made(alloc, 1)?,
+        &mut port,
+        &[100, 100, 100],
+        5,
+        &mut until,
+    )?;
+    Ok((end, until.left))
+}
+
+/// The turns that are left after an act are served, and the counts are those of all stretches.
+#[test]
+fn counts_all_stretches(rt: HostRuntime) {
+    let all = Served {
+        received: 3,
+        replied: 3,
+    };
+    assert!(rt; end_of_stretches(rt.alloc()) == Ok((Ok(all), 2)));
 }

@@ -6,3 +6,4 @@ mod NamedLemmas
 mod FloorsLemmas
 mod TellingLemmas
 mod ServedLemmas
+pub mod AnswerLemmas

@@ -9,6 +9,7 @@ use Rattle.floor_sql.specs.Held.{SqlHeld}
 use Rattle.floor_store.specs.declared.fault.StoreFault.{StoreFault}
 use Rattle.named_store.specs.Entries.{entries_of}
 use Rattle.named_store.specs.Opened.{AreCounts, EnrolsNames, HasSeated, IsCause, IsRefused as HandsBackNamed}
+use Rattle.named_store.specs.Seating.{AreDistinct}
 use Rattle.named_store.specs.declared.fault.NamedFault.{NamedFault}
 use Rattle.named_store.specs.declared.fault.NamedFault.TheVariants as named
 use Rattle.named_store.specs.declared.opening.RowCounts.{RowCounts}
@@ -103,8 +104,9 @@ module _ {S : Type 0} (g : Ghosts S) (finds : sql.Held S → Type 0) (cluster : 
       → (HasCleanDisk (sql.state g conn) → finds conn)
       → HasSeated g conn node names given cluster.bond store
       → (HasCleanDisk (sql.state g store.inner.conn) → AreCounts (sql.state g conn).now node names cluster.bond counts)
-      → length store.seats ≡ length book → HasOpenedNamed g finds cluster limits moment node book floors store counts
-  opened_named node book floors names given conn store counts same drifted found seated counted each = record {
+      → length store.seats ≡ length book → AreDistinct (entries_of cluster.salt book)
+      → HasOpenedNamed g finds cluster limits moment node book floors store counts
+  opened_named node book floors names given conn store counts same drifted found seated counted each apart = record {
     conn = conn;
     found = found;
     seated =
@@ -112,4 +114,5 @@ module _ {S : Type 0} (g : Ghosts S) (finds : sql.Held S → Type 0) (cluster : 
         (subst (λ (l : List Entry). HasSeated g conn node l given cluster.bond store) same seated);
     counted = λ clean. subst (λ (l : List Entry). AreCounts (sql.state g conn).now node l cluster.bond counts) same (counted clean);
     each = each;
+    names_apart = apart;
   }

@@ -20,15 +20,16 @@ use Rattle.named_port.specs.Runs.{IsAfter, at_start, below_events, handed_events
 use Rattle.named_port.specs.Setup.{named_setup}
 use Rattle.named_port.specs.Translator.{TranslatorRecord, new_translator}
 use Rattle.named_store.specs.declared.opening.RowCounts.{RowCounts}
+use Rattle.node_reports.specs.Desk.{DeskAnswers}
 use Rattle.oath_node.specs.Calls.{IsOpened}
 use Rattle.oath_node.specs.Hosted.{Hosted}
-use Rattle.oath_node.specs.TurnServing.{ServesUntil}
 use Rattle.oath_node.specs.declared.serve_fault.ServeFault.{ServeFault}
 use Rattle.oath_node.specs.declared.turns.Served.{Served}
 use Rattle.otp_core.specs.Limits.{Limits}
 use Rattle.sealed_port.specs.Gate.{GateRecord}
 use Rattle.sealed_port.specs.Setup.{AreHeard, gate_setup, keyed_of}
 use Rattle.sealed_port.specs.declared.client.Client.{Client}
+use Rattle.sealed_port.specs.declared.operator.Operator.{Operator}
 use Rattle.seated_store.specs.Seated.{SeatedRecord, seated_held}
 use Rattle.token_file.specs.Credential.{Credential}
 use Rattle.token_names.specs.Names.{names_of}
@@ -37,10 +38,11 @@ use Rattle.udp_port.specs.Setup.{setup_of}
 use Rattle.oathd_database.specs.Commands.{IsNotServed}
 use Rattle.oathd_database.specs.Fault.{IsOpenFault, serve_end}
 use Rattle.oathd_database.specs.Front.{IsFrontFault, IsFrontOf}
-use Rattle.oathd_database.specs.Gate.{client_from}
+use Rattle.oathd_database.specs.Gate.{client_from, operator_from}
 use Rattle.oathd_database.specs.NodeKey.{tag_key}
 use Rattle.vote_wire.specs.Key.{bare}
-use Rattle.oathd_database.specs.Setup.{keyed_from, setup_behind, setup_for}
+use Rattle.oathd_database.specs.Setup.{keyed_from, keyed_operator, setup_behind, setup_for}
+use Rattle.oathd_database.specs.Stretches.{ActsOf, ServesIn, operator_acts, unasked}
 use Rattle.oathd_database.specs.Users.{IsImported}
 use Rattle.oathd_database.specs.declared.fault.Fault.{Fault}
 use Rattle.oathd_database.specs.declared.fault.Fault.TheVariants.{Memory, CannotWrite, NoClock, Users, Store, Socket}
@@ -54,6 +56,7 @@ use Rattle.oathd_roster.specs.Served.{EndsServingNamed, HasServedNamed, IsServed
 use Rattle.oathd_roster.specs.declared.cluster.NamedCluster.{NamedCluster}
 use Rattle.oathd_roster.specs.declared.fault.RosterFault.{RosterFault}
 use Rattle.oathd_roster.specs.declared.fault.RosterFault.TheVariants.{Command, SameName, AnotherCluster, Full}
+use Rattle.oathd_database.proofs.StretchLemmas.{stretches_so}
 use Rattle.oathd_roster.proofs.NamedLemmas.{parts_stay}
 use Rattle.oathd_roster.proofs.TellingLemmas.{known_above, telling_stays}
 
@@ -61,16 +64,16 @@ use Rattle.oathd_roster.proofs.TellingLemmas.{known_above, telling_stays}
 
 -- The translator `t` and the packer `p` are at their start, when nothing was received and offered, and `u`, `q` and the
 -- bundler `b` are those at the end.
-pub served_under : {S : Type 0} (held : S → Held) (old new : Hosted S) (turns : ℕ) (answers : ℕ → Bool → Bool → Type 0) (end : Result Served ServeFault) (t u start : TranslatorRecord) (p q packer : PackerRecord)
+pub served_under : {S : Type 0} (held : S → Held) (acts : ActsOf S) (old new : Hosted S) (turns : ℕ) (answers : ℕ → Bool → Bool → Type 0) (end : Result Served ServeFault) (t u start : TranslatorRecord) (p q packer : PackerRecord)
     (b : BundlerRecord) (none calls : List PortEvent) (told : List Call) (joined : List joining.Call) (was now : Option Setup) (floors later : List ℕ) (below : Option (List PortEvent))
     → t ≡ start → start ≡ at_start start → none ≡ [] → p ≡ packer → packer ≡ telling.at_start packer floors → IsSome was
-    → ServesUntil held old new (Some (handed_events (at_start t) none)) (Some (handed_events (at_start u) calls)) None None turns answers end
+    → ServesIn held acts old new (Some (handed_events (at_start t) none)) (Some (handed_events (at_start u) calls)) None None turns answers end
     → named_setup u (telling_setup q later now) ≡ named_setup t (telling_setup p floors was)
     → IsAfter (Some (telling.handed_events (telling.at_start q later) told)) u calls
     → telling.IsAfter (Some (joining.handed_events new_bundler joined)) q (telling.at_start q later) told
     → joining.IsAfter below b joined
-    → ServesNamed held old new start packer below turns answers end × (now ≡ was)
-served_under held old new turns answers end t u start p q packer b none calls told joined was now floors later below is begun fresh is_packer packed known serves same after under over =
+    → ServesNamed held acts old new start packer below turns answers end × (now ≡ was)
+served_under held acts old new turns answers end t u start p q packer b none calls told joined was now floors later below is begun fresh is_packer packed known serves same after under over =
     let parts = parts_stay t u (telling_setup p floors was) (telling_setup q later now) (known_above p floors was known) same in
     let more = telling_stays p q floors later was now known parts.1 in
     let begins : at_start u ≡ start = parts.0 ∙ ap at_start is ∙ sym begun in
@@ -78,9 +81,9 @@ served_under held old new turns answers end t u start p q packer b none calls to
       record {
         calls = calls;
         serves =
-            subst (λ (f : List PortEvent). ServesUntil held old new (Some f) (Some (handed_events start calls)) None None turns answers end)
+            subst (λ (f : List PortEvent). ServesIn held acts old new (Some f) (Some (handed_events start calls)) None None turns answers end)
             (ap (handed_events (at_start t)) fresh)
-            (subst (λ (s : TranslatorRecord). ServesUntil held old new (Some (handed_events (at_start t) none)) (Some (handed_events s calls)) None None turns answers end)
+            (subst (λ (s : TranslatorRecord). ServesIn held acts old new (Some (handed_events (at_start t) none)) (Some (handed_events s calls)) None None turns answers end)
             begins serves);
         told = told;
         is_made = subst (λ (one : PackerRecord). may_make one told ≡ true) packs under.is_made;
@@ -98,13 +101,13 @@ served_under held old new turns answers end t u start p q packer b none calls to
       more.1,
     )
 
-module _ {S : Type 0} (held : S → Held) (old new : Hosted S) (turns : ℕ) (answers : ℕ → Bool → Bool → Type 0) (result : Result Served Fault) (end : Result Served ServeFault)
+module _ {S : Type 0} (held : S → Held) (acts : ActsOf S) (old new : Hosted S) (turns : ℕ) (answers : ℕ → Bool → Bool → Type 0) (result : Result Served Fault) (end : Result Served ServeFault)
     (start : TranslatorRecord) (packer : PackerRecord) (skips alone : Bool) (members : List SocketAddrV4) (calls : SocketCalls) (setup : Setup) (ends : result ≡ serve_end end) where
   -- a node was served over a socket's port
-  pub served_plain : ServesNamed held old new start packer (Some (events_of_calls skips alone members calls)) turns answers end
-      → Some (setup_of skips alone members) ≡ Some setup → IsServedNamed held old new setup start packer turns answers result
+  pub served_plain : ServesNamed held acts old new start packer (Some (events_of_calls skips alone members calls)) turns answers end
+      → Some (setup_of skips alone members) ≡ Some setup → IsServedNamed held acts old new setup start packer turns answers result
   served_plain serves stays =
-      subst (λ (s : Setup). IsServedNamed held old new s start packer turns answers result) (same_Some (setup_of skips alone members) setup stays) (record {
+      subst (λ (s : Setup). IsServedNamed held acts old new s start packer turns answers result) (same_Some (setup_of skips alone members) setup stays) (record {
         events = events_of_calls skips alone members calls;
         calls = calls;
         of_setup = refl;
@@ -114,11 +117,11 @@ module _ {S : Type 0} (held : S → Held) (old new : Hosted S) (turns : ℕ) (an
       })
 
   -- a node was served over a gate's port
-  pub served_sealed : (gate : GateRecord) (events : List PortEvent) → ServesNamed held old new start packer (Some events) turns answers end
+  pub served_sealed : (gate : GateRecord) (events : List PortEvent) → ServesNamed held acts old new start packer (Some events) turns answers end
       → ∥ AreHeard (gate_setup gate) (events_of_calls skips alone members calls) events ∥₁
-      → Some (behind_gate (gate_setup gate) (setup_of skips alone members)) ≡ Some setup → IsServedNamed held old new setup start packer turns answers result
+      → Some (behind_gate (gate_setup gate) (setup_of skips alone members)) ≡ Some setup → IsServedNamed held acts old new setup start packer turns answers result
   served_sealed gate events serves heard stays =
-      subst (λ (s : Setup). IsServedNamed held old new s start packer turns answers result)
+      subst (λ (s : Setup). IsServedNamed held acts old new s start packer turns answers result)
       (same_Some (behind_gate (gate_setup gate) (setup_of skips alone members)) setup stays) (record {
         events = events;
         calls = calls;
@@ -149,9 +152,19 @@ clients_keyed client keyed (entry ∷ entries) same =
     ap (λ (one : Keyed). one ∷ map keyed_of (map client entries)) (same entry)
     ∙ ap (λ (all : List Keyed). keyed entry ∷ all) (clients_keyed client keyed entries same)
 
-abbrev setup_with : ℕ → List Keyed → List ℕ → Option ℕ → List SocketAddrV4 → Setup
-setup_with node clients plain most members =
-    behind_gate (record { node = node; clients = clients; operators = []; plain = plain; most = most }) (setup_of true false members)
+abbrev keyed_in : Operator → Keyed
+keyed_in operator = keyed_of operator.holder
+
+operators_keyed : {E : Type 0} (operator : E → Operator) (keyed : E → Keyed) (entries : List E)
+    → ((entry : E) → keyed_in (operator entry) ≡ keyed entry) → map keyed_in (map operator entries) ≡ map keyed entries
+operators_keyed operator keyed [] same = refl
+operators_keyed operator keyed (entry ∷ entries) same =
+    ap (λ (one : Keyed). one ∷ map keyed_in (map operator entries)) (same entry)
+    ∙ ap (λ (all : List Keyed). keyed entry ∷ all) (operators_keyed operator keyed entries same)
+
+abbrev setup_with : ℕ → List Keyed → List Keyed → List ℕ → Option ℕ → List SocketAddrV4 → Setup
+setup_with node clients operators plain most members =
+    behind_gate (record { node = node; clients = clients; operators = operators; plain = plain; most = most }) (setup_of true false members)
 
 -- the port behind the front of the lines is the port for these lines
 setup_is : (node : ℕ) (members : List SocketAddrV4) (given : ClientLines) (front : Front) → IsFrontOf node given front
@@ -166,21 +179,56 @@ setup_is node members (lines.Of clients) Anybody is = absurd is
 setup_is node members (lines.Of clients) ThisMachine is = absurd is
 setup_is node members (lines.Of clients) (Gate gate) is =
     ap (λ (one : GateRecord). behind_gate (gate_setup one) (setup_of true false members)) is.2
-    ∙ ap (λ (all : List Keyed). setup_with node all clients.plain.items clients.failures members)
+    ∙ ap (λ (all : List Keyed). setup_with node all (map keyed_in (map (operator_from clients.ahead is.0) clients.operators.items))
+    clients.plain.items clients.failures members)
     (clients_keyed (client_from clients.ahead is.0) (keyed_from clients.ahead) clients.clients.items (λ entry. refl))
+    ∙ ap (λ (all : List Keyed). setup_with node (map (keyed_from clients.ahead) clients.clients.items) all clients.plain.items clients.failures members)
+    (operators_keyed (operator_from clients.ahead is.0) (keyed_operator clients.ahead) clients.operators.items (λ entry. refl))
 
-module _ {S : Type 0} {held : S → Held} {old new : Hosted S} {start : TranslatorRecord} {packer : PackerRecord} {turns : ℕ} {answers : ℕ → Bool → Bool → Type 0} {result : Result Served Fault} where
+module _ {S : Type 0} {held : S → Held} {acts : ActsOf S} {old new : Hosted S} {start : TranslatorRecord} {packer : PackerRecord} {turns : ℕ} {answers : ℕ → Bool → Bool → Type 0} {result : Result Served Fault} where
   -- a run that is served over one setup, translator and packer is served over the same ones
   pub served_over : {me number : ℕ} {made members : List SocketAddrV4} (given : ClientLines) (front : Front) (other : TranslatorRecord) (same_packer : PackerRecord)
       → made ≡ members → IsFrontOf me given front → me ≡ number → start ≡ other → packer ≡ same_packer
-      → IsServedNamed held old new (setup_behind made front) start packer turns answers result
-      → IsServedNamed held old new (setup_for number members given) other same_packer turns answers result
+      → IsServedNamed held acts old new (setup_behind made front) start packer turns answers result
+      → IsServedNamed held acts old new (setup_for number members given) other same_packer turns answers result
   served_over {me} {number} {made} {members} given front other same_packer same is who begins packs served =
-      subst (λ (t : TranslatorRecord). IsServedNamed held old new (setup_for number members given) t same_packer turns answers result) begins
-      (subst (λ (p : PackerRecord). IsServedNamed held old new (setup_for number members given) start p turns answers result) packs
-      (subst (λ (s : Setup). IsServedNamed held old new s start packer turns answers result)
+      subst (λ (t : TranslatorRecord). IsServedNamed held acts old new (setup_for number members given) t same_packer turns answers result) begins
+      (subst (λ (p : PackerRecord). IsServedNamed held acts old new (setup_for number members given) start p turns answers result) packs
+      (subst (λ (s : Setup). IsServedNamed held acts old new s start packer turns answers result)
       (ap (λ (all : List SocketAddrV4). setup_behind all front) same
       ∙ setup_is number members given front (subst (λ (n : ℕ). IsFrontOf n given front) who is)) served))
+
+-- a desk over something of whose answers nothing is told
+desk_unasked : (answers : ℕ → Bool → Bool → Type 0) (left : ℕ) (waits ends : Bool) → DeskAnswers answers left waits ends
+    → DeskAnswers unasked left waits ends
+desk_unasked answers left waits ends h = record { told = h.told; told_is = h.told_is; own = h.own; answered = tt; own_ends = h.own_ends }
+
+-- nothing is told of the answers below a desk
+served_unasked : {S : Type 0} (held : S → Held) (acts : ActsOf S) (old new : Hosted S) (setup : Setup) (start : TranslatorRecord) (packer : PackerRecord)
+    (turns : ℕ) (answers : ℕ → Bool → Bool → Type 0) (result : Result Served Fault)
+    → IsServedNamed held acts old new setup start packer turns (DeskAnswers answers) result
+    → IsServedNamed held acts old new setup start packer turns (DeskAnswers unasked) result
+served_unasked held acts old new setup start packer turns answers result h =
+    let serves = h.serves in
+    record {
+      events = h.events;
+      calls = h.calls;
+      of_setup = h.of_setup;
+      end = h.end;
+      serves = record {
+        calls = serves.calls;
+        serves = stretches_so held acts old new (Some []) (Some (handed_events start serves.calls)) None None turns (DeskAnswers answers) (DeskAnswers unasked) h.end
+            (desk_unasked answers) serves.serves;
+        told = serves.told;
+        is_made = serves.is_made;
+        handed_is = serves.handed_is;
+        joined = serves.joined;
+        is_joined = serves.is_joined;
+        told_is = serves.told_is;
+        below_is = serves.below_is;
+      };
+      ends = h.ends;
+    }
 
 -- a translator of the same parts is the same
 pub start_is : (key all : List ℕ) (names others : List (List ℕ)) (me number boot : ℕ) → key ≡ all → names ≡ others → me ≡ number
@@ -228,7 +276,7 @@ module _ (limits : Limits) (moment longest : ℕ) (book : List Credential) (floo
   front_failed (Store fault) text h is = absurd is
   front_failed Socket text h is = absurd is
 
-module _ {S : Type 0} (g : Ghosts S) (finds : sql.Held S → Type 0) (cluster : NamedCluster) (moment : ℕ) (serving : Serving) (answers : ℕ → Bool → Bool → Type 0) where
+module _ {S : Type 0} (g : Ghosts S) (finds : sql.Held S → Type 0) (cluster : NamedCluster) (moment : ℕ) (serving : Serving) where
   refused : (fault : Fault) (text : List ℕ) → IsNotOpened g finds cluster serving.settings moment 16777216 serving.place.me (Command fault) text
       → IsNotServed serving.settings moment 16777216 fault text
   refused Memory text h = tt
@@ -241,7 +289,7 @@ module _ {S : Type 0} (g : Ghosts S) (finds : sql.Held S → Type 0) (cluster : 
   -- no store is opened
   pub ends_unopened : (a : Option (List ℕ)) (fault : RosterFault)
       → IfSome a (IsNotOpened g finds cluster serving.settings moment 16777216 serving.place.me fault)
-      → IfSome a (EndsServingNamed g finds cluster moment serving answers fault)
+      → IfSome a (EndsServingNamed g finds cluster moment serving fault)
   ends_unopened None fault h = tt
   ends_unopened (Some text) (Command fault) h = inl (refused fault text h)
   ends_unopened (Some text) (SameName row) h = h
@@ -251,37 +299,36 @@ module _ {S : Type 0} (g : Ghosts S) (finds : sql.Held S → Type 0) (cluster : 
   module _ (a : Option (List ℕ)) (book : List Credential) (floors : List ℕ)
       (imported : IfSome a (IsImported serving.settings moment 16777216 book floors)) where
     ends_before : (fault : Fault) → ((text : List ℕ) → IsImported serving.settings moment 16777216 book floors text
-        → IsNotServed serving.settings moment 16777216 fault text) → IfSome a (EndsServingNamed g finds cluster moment serving answers (Command fault))
+        → IsNotServed serving.settings moment 16777216 fault text) → IfSome a (EndsServingNamed g finds cluster moment serving (Command fault))
     ends_before fault fails = IfSome_then a imported (λ text h. inl (fails text h))
 
     -- the allocator refuses the memory before the first turn, or the node was served
-    pub ends_early : {A B : Type 0} (fault : Fault) → ((failed fault ≡ failed Memory) × B) ⊎ A
-        → (A → IfSome a (EndsServingNamed g finds cluster moment serving answers (Command fault)))
-        → IfSome a (EndsServingNamed g finds cluster moment serving answers (Command fault))
+    pub ends_early : {A B : Type 0} (fault : Fault) → ((fault ≡ Memory) × B) ⊎ A
+        → (A → IfSome a (EndsServingNamed g finds cluster moment serving (Command fault)))
+        → IfSome a (EndsServingNamed g finds cluster moment serving (Command fault))
     ends_early fault (inl memory) served =
-        let same : fault ≡ Memory = err_same fault Memory memory.0 in
-        subst (λ (x : Fault). IfSome a (EndsServingNamed g finds cluster moment serving answers (Command x))) (sym same)
+        subst (λ (x : Fault). IfSome a (EndsServingNamed g finds cluster moment serving (Command x))) (sym memory.0)
         (ends_before Memory (λ text h. tt))
     ends_early fault (inr run) served = served run
 
     -- the node is not opened, or its store fails
-    pub ends_opening : (fault : Fault) → IsOpenFault fault → IfSome a (EndsServingNamed g finds cluster moment serving answers (Command fault))
+    pub ends_opening : (fault : Fault) → IsOpenFault fault → IfSome a (EndsServingNamed g finds cluster moment serving (Command fault))
     ends_opening fault is = ends_before fault (λ text h. opening_failed serving.settings moment 16777216 book floors fault text h is)
 
     -- what stands before the node can't be made
-    pub ends_front : (fault : Fault) → IsFrontFault fault → IfSome a (EndsServingNamed g finds cluster moment serving answers (Command fault))
+    pub ends_front : (fault : Fault) → IsFrontFault fault → IfSome a (EndsServingNamed g finds cluster moment serving (Command fault))
     ends_front fault is = ends_before fault (λ text h. front_failed serving.settings moment 16777216 book floors fault text h is)
 
     -- the socket can't be had
-    pub ends_socket : (fault : Fault) → fault ≡ Socket → IfSome a (EndsServingNamed g finds cluster moment serving answers (Command fault))
+    pub ends_socket : (fault : Fault) → fault ≡ Socket → IfSome a (EndsServingNamed g finds cluster moment serving (Command fault))
     ends_socket fault is =
-        subst (λ (x : Fault). IfSome a (EndsServingNamed g finds cluster moment serving answers (Command x))) (sym is)
+        subst (λ (x : Fault). IfSome a (EndsServingNamed g finds cluster moment serving (Command x))) (sym is)
         (ends_before Socket (λ text h. record { book = book; floors = floors; imported = h }))
 
     -- the allocator refuses the memory
-    pub ends_memory : (fault : Fault) → fault ≡ Memory → IfSome a (EndsServingNamed g finds cluster moment serving answers (Command fault))
+    pub ends_memory : (fault : Fault) → fault ≡ Memory → IfSome a (EndsServingNamed g finds cluster moment serving (Command fault))
     ends_memory fault is =
-        subst (λ (x : Fault). IfSome a (EndsServingNamed g finds cluster moment serving answers (Command x))) (sym is) (ends_before Memory (λ text h. tt))
+        subst (λ (x : Fault). IfSome a (EndsServingNamed g finds cluster moment serving (Command x))) (sym is) (ends_before Memory (λ text h. tt))
 
     module _ (found : SeatedRecord (SqlHeld S)) (counts : RowCounts) (first last : Hosted (SeatedRecord (SqlHeld S))) (boot : ℕ) (starts : List ℕ)
         (opened : HasOpenedNamed g finds cluster serving.settings moment serving.place.me book floors found counts)
@@ -289,13 +336,16 @@ module _ {S : Type 0} (g : Ghosts S) (finds : sql.Held S → Type 0) (cluster : 
         (of_limits : first.limits ≡ serving.settings) (of_key : first.key ≡ bare) (of_place : first.voter.place ≡ serving.place)
         (boot_is : HasCleanDisk (sql.state g found.inner.conn) → boot ≡ found.inner.mirror.boot + 1)
         (starts_are : HasCleanDisk (sql.state g found.inner.conn) → starts ≡ floors_in (seated_held (sql_held g) found).content) where
-      abbrev IsSo : Result Served Fault → Type 0
-      IsSo result = IsServedNamed (seated_held (sql_held g)) first last (setup_for serving.place.me serving.members.items serving.lines)
+      abbrev IsSo : (ℕ → Bool → Bool → Type 0) → Result Served Fault → Type 0
+      IsSo answers result = IsServedNamed (seated_held (sql_held g)) (operator_acts (seated_held (sql_held g))) first last
+          (setup_for serving.place.me serving.members.items serving.lines)
           (new_translator (tag_key serving.key book) (names_of cluster.salt book) serving.place.me boot)
-          (new_packer (tag_key serving.key book) (names_of cluster.salt book) serving.place.me boot serving.place.n starts) serving.turns answers result
+          (new_packer (tag_key serving.key book) (names_of cluster.salt book) serving.place.me boot serving.place.n starts) serving.turns
+          (DeskAnswers answers) result
 
-      served_so : (result : Result Served Fault) → IsSo result → IfSome a (HasServedNamed g finds cluster moment serving answers result)
-      served_so result is =
+      served_so : (answers : ℕ → Bool → Bool → Type 0) (result : Result Served Fault) → IsSo answers result
+          → IfSome a (HasServedNamed g finds cluster moment serving answers result)
+      served_so answers result is =
           IfSome_then a imported (λ text i. record {
             import = record { book = book; floors = floors; imported = i };
             found = found;
@@ -316,9 +366,18 @@ module _ {S : Type 0} (g : Ghosts S) (finds : sql.Held S → Type 0) (cluster : 
           })
 
       -- the node is served to the end
-      pub has_served : (served : Served) → IsSo (Ok served) → IfSome a (HasServedNamed g finds cluster moment serving answers (Ok served))
-      has_served served is = served_so (Ok served) is
+      pub has_served : (answers : ℕ → Bool → Bool → Type 0) (served : Served) → IsSo answers (Ok served)
+          → IfSome a (HasServedNamed g finds cluster moment serving answers (Ok served))
+      has_served answers served is = served_so answers (Ok served) is
 
       -- a fault ends the turns
-      pub ends_served : (fault : Fault) → IsSo (Err fault) → IfSome a (EndsServingNamed g finds cluster moment serving answers (Command fault))
-      ends_served fault is = IfSome_then a (served_so (Err fault) is) (λ text has. inr has)
+      pub ends_served : (fault : Fault) → IsSo unasked (Err fault) → IfSome a (EndsServingNamed g finds cluster moment serving (Command fault))
+      ends_served fault is = IfSome_then a (served_so unasked (Err fault) is) (λ text has. inr has)
+
+-- who was not served to the end wasn't served, for want of memory, or was served till the fault
+pub ends_at_desk : {S B : Type 0} (held : S → Held) (acts : ActsOf S) (old new : Hosted S) (setup : Setup) (start : TranslatorRecord) (packer : PackerRecord) (turns : ℕ)
+    (answers : ℕ → Bool → Bool → Type 0) (fault : Fault) → ((failed fault ≡ failed Memory) × B) ⊎ IsServedNamed held acts old new setup start packer turns (DeskAnswers answers) (Err fault)
+    → ((fault ≡ Memory) × B) ⊎ IsServedNamed held acts old new setup start packer turns (DeskAnswers unasked) (Err fault)
+ends_at_desk held acts old new setup start packer turns answers fault (inl memory) = inl (err_same fault Memory memory.0, memory.1)
+ends_at_desk held acts old new setup start packer turns answers fault (inr run) =
+    inr (served_unasked held acts old new setup start packer turns answers (Err fault) run)

@@ -9,6 +9,7 @@ use Rattle.token_file.specs.Credential.{Credential}
 use Rattle.floor_sql.specs.Held.{SqlHeld}
 use Rattle.named_store.specs.Entries.{entries_of}
 use Rattle.named_store.specs.Opened.{AreCounts, EnrolsNames, HasSeated, IsCause, IsRefused as HandsBackNamed}
+use Rattle.named_store.specs.Seating.{AreDistinct}
 use Rattle.named_store.specs.declared.fault.NamedFault.{NamedFault}
 use Rattle.named_store.specs.declared.fault.NamedFault.TheVariants as named
 use Rattle.named_store.specs.declared.opening.RowCounts.{RowCounts}
@@ -33,6 +34,8 @@ module _ {S : Type 0} (g : Ghosts S) (finds : sql.Held S → Type 0) (cluster : 
     pub counted : HasCleanDisk (sql.state g store.inner.conn)
         → AreCounts (sql.state g conn).now node (entries_of cluster.salt book) cluster.bond counts
     pub each : length store.seats ≡ length book
+    -- no two tokens have one name
+    pub names_apart : AreDistinct (entries_of cluster.salt book)
 
   -- The tables of some connection give the reason why no store is opened. They stay, or have the new tokens.
   pub record IsKeptOut (longest node : ℕ) (fault : NamedFault) (text : List ℕ) : Type 0 where

@@ -17,10 +17,10 @@ use Rattle.named_port.specs.Runs.{below_events, handed_events}
 use Rattle.named_port.specs.Translator.{TranslatorRecord, new_translator}
 use Rattle.oath_node.specs.Calls.{IsOpened}
 use Rattle.oath_node.specs.Hosted.{Hosted}
-use Rattle.oath_node.specs.TurnServing.{ServesUntil}
 use Rattle.oath_node.specs.declared.serve_fault.ServeFault.{ServeFault}
 use Rattle.oath_node.specs.declared.turns.Served.{Served}
 use Rattle.named_store.specs.declared.opening.RowCounts.{RowCounts}
+use Rattle.node_reports.specs.Desk.{DeskAnswers}
 use Rattle.seated_store.specs.Seated.{SeatedRecord, seated_held}
 use Rattle.token_names.specs.Names.{names_of}
 use Rattle.udp_port.specs.Calls.{SocketCalls}
@@ -29,6 +29,7 @@ use Rattle.oathd_database.specs.Commands.{HasImport, IsNotServed}
 use Rattle.oathd_database.specs.Fault.{serve_end}
 use Rattle.oathd_database.specs.NodeKey.{tag_key}
 use Rattle.oathd_database.specs.Setup.{AreEventsOf, setup_for}
+use Rattle.oathd_database.specs.Stretches.{ActsOf, ServesIn, operator_acts, unasked}
 use Rattle.oathd_database.specs.declared.fault.Fault.{Fault}
 use Rattle.oathd_database.specs.declared.serving.Serving.{Serving}
 use Rattle.oathd_roster.specs.Opened.{HasOpenedNamed, IsNotOpened}
@@ -54,16 +55,16 @@ packer_of naming =
 
 -- ---- the turns
 
--- A node was served for the turns, or until an answer ended them, through a translator, over a port that tells floors,
--- over one that joins datagrams.
--- All were new at the start. `below` is the record at the end of the port below the last one.
-pub record ServesNamed {S : Type 0} (held : S → Held) (old new : Hosted S) (start : TranslatorRecord)
+-- A node was served for the turns in stretches, or until an answer ended them, through a translator, over a port that
+-- tells floors, over one that joins datagrams. All were new at the start. `below` is the record at the end of the port
+-- below the last one.
+pub record ServesNamed {S : Type 0} (held : S → Held) (acts : ActsOf S) (old new : Hosted S) (start : TranslatorRecord)
     (packer : PackerRecord) (below : Option (List PortEvent)) (turns : ℕ) (answers : ℕ → Bool → Bool → Type 0)
     (end : Result Served ServeFault) : Type 0 where
   -- the events that the translator received, and the node's offers
   pub calls : List PortEvent
   -- the node received what the translator handed in for them
-  pub serves : ServesUntil held old new (Some []) (Some (handed_events start calls)) None None turns answers end
+  pub serves : ServesIn held acts old new (Some []) (Some (handed_events start calls)) None None turns answers end
   -- the calls of the port that tells floors
   pub told : List Call
   pub is_made : may_make packer told ≡ true
@@ -80,7 +81,7 @@ pub record ServesNamed {S : Type 0} (held : S → Held) (old new : Hosted S) (st
 -- A node was served for the turns through a new translator, a new packer and a new bundler over a port with the setup,
 -- or until an answer ended them. The port kept a record, and had received and offered nothing. The run ended with
 -- `result`.
-pub record IsServedNamed {S : Type 0} (held : S → Held) (old new : Hosted S) (setup : Setup)
+pub record IsServedNamed {S : Type 0} (held : S → Held) (acts : ActsOf S) (old new : Hosted S) (setup : Setup)
     (start : TranslatorRecord) (packer : PackerRecord) (turns : ℕ) (answers : ℕ → Bool → Bool → Type 0)
     (result : Result Served Fault) : Type 0 where
   -- the port's record at the end
@@ -89,15 +90,16 @@ pub record IsServedNamed {S : Type 0} (held : S → Held) (old new : Hosted S) (
   pub calls : SocketCalls
   pub of_setup : AreEventsOf setup calls events
   pub end : Result Served ServeFault
-  pub serves : ServesNamed held old new start packer (Some events) turns answers end
+  pub serves : ServesNamed held acts old new start packer (Some events) turns answers end
   pub ends : result ≡ serve_end end
 
 -- ---- the command
 
 module _ {S : Type 0} (g : Ghosts S) (finds : sql.Held S → Type 0) (cluster : NamedCluster) (moment : ℕ)
     (serving : Serving) (answers : ℕ → Bool → Bool → Type 0) where
-  -- A node was opened over its store and served for the given turns, or until an answer or a fault ended them. The store
-  -- was opened for the tokens of the users file, by their names. The node speaks to the other members by the same names.
+  -- A node was opened over its store and served for the given turns, or until an answer or a fault ended them. Between
+  -- two batches it was acted on for operators. The store was opened for the tokens of the users file, by their names.
+  -- The node speaks to the other members by the same names.
   pub record HasServedNamed (result : Result Served Fault) (text : List ℕ) : Type 0 where
     pub import : HasImport serving.settings moment 16777216 text
     pub found : SeatedRecord (SqlHeld S)
@@ -126,17 +128,20 @@ module _ {S : Type 0} (g : Ghosts S) (finds : sql.Held S → Type 0) (cluster : 
         let key = tag_key serving.key import.book in
         let names = names_of cluster.salt import.book in
         let me = serving.place.me in
-        IsServedNamed (seated_held (sql_held g)) first last setup (new_translator key names me boot)
-        (new_packer key names me boot serving.place.n floors) serving.turns answers result
+        let held = seated_held (sql_held g) in
+        IsServedNamed held (operator_acts held) first last setup (new_translator key names me boot)
+        (new_packer key names me boot serving.place.n floors) serving.turns (DeskAnswers answers) result
 
-  -- A command that serves a node by names ends with the fault: before the first turn, or in a turn, with all that was
-  -- served until then.
-  abbrev pub EndsServingNamed : RosterFault → List ℕ → Type 0
-  EndsServingNamed (Command fault) text =
-      IsNotServed serving.settings moment 16777216 fault text ⊎ HasServedNamed (Err fault) text
-  EndsServingNamed (SameName row) text =
-      IsNotOpened g finds cluster serving.settings moment 16777216 serving.place.me (SameName row) text
-  EndsServingNamed AnotherCluster text =
-      IsNotOpened g finds cluster serving.settings moment 16777216 serving.place.me AnotherCluster text
-  EndsServingNamed Full text =
-      IsNotOpened g finds cluster serving.settings moment 16777216 serving.place.me Full text
+-- A command that serves a node by names ends with the fault: before the first turn, or in a turn, with all that was
+-- served until then.
+abbrev pub EndsServingNamed : {S : Type 0} → Ghosts S → (sql.Held S → Type 0) → NamedCluster → ℕ → Serving → RosterFault
+    → List ℕ → Type 0
+EndsServingNamed g finds cluster moment serving (Command fault) text =
+    IsNotServed serving.settings moment 16777216 fault text
+    ⊎ HasServedNamed g finds cluster moment serving unasked (Err fault) text
+EndsServingNamed g finds cluster moment serving (SameName row) text =
+    IsNotOpened g finds cluster serving.settings moment 16777216 serving.place.me (SameName row) text
+EndsServingNamed g finds cluster moment serving AnotherCluster text =
+    IsNotOpened g finds cluster serving.settings moment 16777216 serving.place.me AnotherCluster text
+EndsServingNamed g finds cluster moment serving Full text =
+    IsNotOpened g finds cluster serving.settings moment 16777216 serving.place.me Full text

@@ -17,6 +17,7 @@ use floor_store::{FloorStore, StoreFault};
 use named_store::{RowCounts, enrol_and_count};
 use oathd_database::{Database, Fault};
 use otp_core::Settings;
+use roster_sql::Entry;
 use seated_store::SeatedStore;
 use sqlite::Alter;
 use std::alloc::Global;
@@ -29,7 +30,7 @@ use std::io::Read;
 /// secrets of the cluster's new tokens are new, a time token begins at its step of the moment, less the skew. The floor
 /// is greater if a row with the token's seed has a greater one. The floors of the other tokens are the store's.
 ///
-/// Returns the tokens, the store, and the numbers of its rows.
+/// Returns the tokens, the store, the numbers of its rows, and the entry of each row.
 ///
 /// # Errors
 /// - Returns the errors of [`read_named_users`]. The database is not opened.
@@ -45,7 +46,7 @@ pub fn open_named_store<R: Read + Drop, S: Alter + Drop, D: Database<S>>(
     node: u8,
     cluster: &NamedCluster,
     database: D,
-) -> Result<(NamedUsers, SeatedStore<SqlStore<S>>, RowCounts), RosterFault>
+) -> Result<(NamedUsers, SeatedStore<SqlStore<S>>, RowCounts, Vec<Entry>), RosterFault>
     requires { IsMoment moment }
     ensures users { IfOk result (λ opened. IfSome (R.remaining users)
         (IsImported settings moment 16777216 opened.0.users.book opened.0.users.floors.items)) }
@@ -63,7 +64,7 @@ pub fn open_named_store<R: Read + Drop, S: Alter + Drop, D: Database<S>>(
     let conn = database.connect()?;
     let tokens = named.users.book.len() as u32;
     let (entries, own) = (&named.entries, &cluster.bond);
-    let (store, counts) = match enrol_and_count(alloc, conn, node, entries, &floors, own) {
+    let (store, counts, roster) = match enrol_and_count(alloc, conn, node, entries, &floors, own) {
         Ok(opened) => opened,
         Err((_, fault)) => return Err(RosterFault::from(fault)),
     };
@@ -71,5 +72,5 @@ pub fn open_named_store<R: Read + Drop, S: Alter + Drop, D: Database<S>>(
         // The disk returned something other than what was written.
         return Err(RosterFault::Command(Fault::Store(StoreFault::Unusable)));
     }
-    Ok((named, store, counts))
+    Ok((named, store, counts, roster))
 }

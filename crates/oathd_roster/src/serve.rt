@@ -2,10 +2,13 @@
 
 ghost use Rattle.std.specs.Prelude.{◌≡◌, ◌⊎◌, ◌<◌, ◌^◌, [], None, Some, false, true, if◌then◌else◌, map, Result, Ok, Err, IfErr, IfOk, IfSome, IsSome};
 ghost use Rattle.otp_core.specs.Range.{IsMoment};
+ghost use Rattle.cluster_file.specs.Rows.{book_print_of};
+ghost use Rattle.node_reports.specs.Desk.{DeskAnswers};
 ghost use Rattle.oath_node.specs.declared.serve_fault.ServeFault.{ServeFault};
 ghost use Rattle.oath_node.specs.declared.turns.Served.{Served};
 ghost use Rattle.oathd_database.specs.Fault.{serve_end};
 ghost use Rattle.oathd_database.specs.Setup.{setup_behind};
+ghost use Rattle.oathd_database.specs.Stretches.{ServesIn, operator_acts, unasked};
 ghost use Rattle.oathd_roster.specs.Log.{roster_at};
 ghost use Rattle.oathd_roster.specs.Served.{EndsServingNamed, HasServedNamed, IsServedNamed, ServesNamed, packer_of, translator_of};
 
@@ -18,17 +21,22 @@ use crate::opening::open_named_store;
 use crate::users::NamedUsers;
 use bundle_port::BundlePort;
 use cluster_file::book_print;
+use command_line::VERSION;
+use count_port::CountPort;
 use floor_port::{FloorPort, Membership};
+use floor_sql::SqlStore;
 use floor_store::FloorStore;
 use named_port::{NamedPort, Names};
 use named_store::RowCounts;
-use node_log::{Gatekeeper, Roster};
-use oath_node::{Node, Served, Until};
+use node_log::{Gatekeeper, Roster, Start};
+use node_reports::{Desk, NamedRows, Standing, Told, version_of};
+use oath_node::{Node, Served};
 use oathd_database::{
-    Database, Fault, Front, KeptSocket, ServeLog, Serving, front_of, log_of, open_node, serve_port,
-    start_of, tag_key,
+    Attend, Attended, Database, Fault, Front, KeptSocket, ServeLog, Serving, Stop, front_of,
+    log_of, open_node, serve_port, start_of, tag_key,
 };
 use sealed_port::SealedPort;
+use seated_store::SeatedStore;
 use sqlite::Alter;
 use std::alloc::Global;
 use std::io::{Read, Write};
@@ -36,24 +44,57 @@ use std::net::Net;
 use std::time::Clock as TimeSource;
 use token_file::Book;
 use udp_port::{SystemClock, UdpPort};
+use vote_core::Place;
 use vote_wire::ClusterKey;
+
+/// Serves a node over a port by names, with a log if there is one. If operators may ask, another port above it counts
+/// what passes.
+///
+/// # Errors
+/// Returns the errors of [`serve_port`].
+fn serve_asked<S: FloorStore, P: Gatekeeper + Drop, N: TimeSource, W: Write, U: Attend<S>>(
+    node: &mut Node<'_, S>,
+    port: P,
+    member: Membership,
+    is_asked: bool,
+    outside: &N,
+    turns: u64,
+    until: &mut Attended<U>,
+    log: Option<ServeLog>,
+    writer: &mut W,
+) -> Result<Served, Fault>
+    requires turns { turns < 2 ^ 54 }
+    requires fresh { IfSome (P.events port) (λ events. events ≡ []) }
+    ensures turns { (end : Result Served ServeFault) × (last : P)
+        × ServesIn S.held U.acts node.old node.new (P.events port) (P.events last) None None turns
+        (U.answers until.new.attendant) end × (P.setup last ≡ P.setup port) × (result ≡ serve_end end) }
+    ensures unlogged { log ≡ None → writer.new ≡ writer.old }
+{
+    let bare = ClusterKey::bare();
+    if !is_asked {
+        return serve_port(node, port, outside, turns, until, &bare, log, writer);
+    }
+    let counted = CountPort::new(port, &bare, member.me, member.members);
+    serve_port(node, counted, outside, turns, until, &bare, log, writer)
+}
 
 /// Serves a node by names over a port, which has received and offered nothing, with a log if there is one.
 ///
 /// Between the node's port by names and `port` stand two others: one tells the node's floors to the other members, and
-/// the one below it joins the datagrams to a member into one.
+/// the one below it joins the datagrams to a member into one. `is_asked` says whether operators may ask.
 ///
 /// # Errors
 /// - Returns `Memory` if the allocator refuses the memory for the floors that the port tells. The node is as it was.
-/// - Returns the errors of [`serve_port`].
-fn serve_named<S: FloorStore, P: Gatekeeper + Drop, N: TimeSource, W: Write, U: Until>(
+/// - Returns the errors of [`serve_asked`].
+fn serve_named<S: FloorStore, P: Gatekeeper + Drop, N: TimeSource, W: Write, U: Attend<S>>(
     alloc: Global,
     node: &mut Node<'_, S>,
     port: P,
     naming: &Naming,
+    is_asked: bool,
     outside: &N,
     turns: u64,
-    until: &mut U,
+    until: &mut Attended<U>,
     log: Option<ServeLog>,
     writer: &mut W,
 ) -> Result<Served, Fault>
@@ -62,8 +103,8 @@ fn serve_named<S: FloorStore, P: Gatekeeper + Drop, N: TimeSource, W: Write, U: 
     requires known { IsSome (P.setup port) }
     ensures turns { ((result ≡ Err Fault.Memory) × (node.new ≡ node.old))
         ⊎ ((end : Result Served ServeFault) × (last : P)
-        × ServesNamed S.held node.old node.new (translator_of naming.now) (packer_of naming.now) (P.events last)
-        turns (U.answers until.new) end × (P.setup last ≡ P.setup port) × (result ≡ serve_end end)) }
+        × ServesNamed S.held U.acts node.old node.new (translator_of naming.now) (packer_of naming.now) (P.events last)
+        turns (U.answers until.new.attendant) end × (P.setup last ≡ P.setup port) × (result ≡ serve_end end)) }
     ensures unlogged { log ≡ None → writer.new ≡ writer.old }
 {
     let (key, names, member) = (&naming.key, &naming.names, naming.node);
@@ -72,8 +113,9 @@ fn serve_named<S: FloorStore, P: Gatekeeper + Drop, N: TimeSource, W: Write, U: 
         return Err(Fault::Memory);
     };
     let named = NamedPort::new(telling, key, names, member.me, member.boot);
-    let bare = ClusterKey::bare();
-    serve_port(node, named, outside, turns, until, &bare, log, writer)
+    serve_asked(
+        node, named, member, is_asked, outside, turns, until, log, writer,
+    )
 }
 
 /// Serves a node by names over a socket, for the clients that `front` lets through, with a log if there is one. Without
@@ -81,7 +123,7 @@ fn serve_named<S: FloorStore, P: Gatekeeper + Drop, N: TimeSource, W: Write, U: 
 ///
 /// # Errors
 /// Returns the errors of [`serve_named`].
-fn serve_front<S: FloorStore, N: TimeSource, W: Write, U: Until>(
+fn serve_front<S: FloorStore, N: TimeSource, W: Write, U: Attend<S>>(
     alloc: Global,
     node: &mut Node<'_, S>,
     port: UdpPort<&N>,
@@ -89,40 +131,80 @@ fn serve_front<S: FloorStore, N: TimeSource, W: Write, U: Until>(
     outside: &N,
     front: Front,
     turns: u64,
-    until: &mut U,
+    until: &mut Attended<U>,
     log: Option<ServeLog>,
     writer: &mut W,
 ) -> Result<Served, Fault>
     requires turns { turns < 2 ^ 54 }
     requires calls { port.calls.made ≡ [] }
     requires plain { (port.skips_answers ≡ true) × (port.takes_loopback_alone ≡ false) }
-    ensures turns { ((result ≡ Err Fault.Memory) × (node.new ≡ node.old)) ⊎ IsServedNamed S.held node.old node.new
-        (setup_behind port.entry.members.items front) (translator_of naming.now) (packer_of naming.now)
-        turns (U.answers until.new) result }
+    ensures turns { ((result ≡ Err Fault.Memory) × (node.new ≡ node.old))
+        ⊎ IsServedNamed S.held U.acts node.old node.new (setup_behind port.entry.members.items front)
+        (translator_of naming.now) (packer_of naming.now) turns (U.answers until.new.attendant) result }
     ensures unlogged { log ≡ None → writer.new ≡ writer.old }
 {
     match front {
         Front::Anybody => serve_named(
-            alloc, node, port, naming, outside, turns, until, log, writer,
+            alloc, node, port, naming, false, outside, turns, until, log, writer,
         ),
         Front::ThisMachine => {
             let port = port.taking_loopback_alone();
             serve_named(
-                alloc, node, port, naming, outside, turns, until, log, writer,
+                alloc, node, port, naming, false, outside, turns, until, log, writer,
             )
         }
         Front::Gate(gate) => {
             let port = SealedPort::new(port.under_gate(), SystemClock::new(outside), gate);
             serve_named(
-                alloc, node, port, naming, outside, turns, until, log, writer,
+                alloc, node, port, naming, true, outside, turns, until, log, writer,
             )
         }
     }
 }
 
+/// Serves a node by names over a socket, as [`serve_front`] does, with a desk at which operators ask. The desk knows the
+/// tokens of `book`, and tells them what stays of the node and what `told` tells. Returns `until` too.
+///
+/// # Errors
+/// Returns the errors of [`serve_front`].
+fn serve_desk<S: FloorStore, T: Told<S> + Drop, N: TimeSource, W: Write, U: Stop + Drop>(
+    alloc: Global,
+    node: &mut Node<'_, S>,
+    port: UdpPort<&N>,
+    naming: &Naming,
+    outside: &N,
+    front: Front,
+    turns: u64,
+    standing: Standing,
+    book: &Book,
+    told: T,
+    until: U,
+    log: Option<ServeLog>,
+    writer: &mut W,
+) -> Result<(Served, U), Fault>
+    requires turns { turns < 2 ^ 54 }
+    requires calls { port.calls.made ≡ [] }
+    requires plain { (port.skips_answers ≡ true) × (port.takes_loopback_alone ≡ false) }
+    ensures served { IfOk result (λ served. IsServedNamed S.held (operator_acts S.held) node.old node.new
+        (setup_behind port.entry.members.items front) (translator_of naming.now) (packer_of naming.now) turns
+        (DeskAnswers (U.answers served.1)) (Ok served.0)) }
+    ensures fault { IfErr result (λ fault. ((fault ≡ Fault.Memory) × (node.new ≡ node.old))
+        ⊎ IsServedNamed S.held (operator_acts S.held) node.old node.new (setup_behind port.entry.members.items front)
+        (translator_of naming.now) (packer_of naming.now) turns (DeskAnswers unasked) (Err fault)) }
+    ensures unlogged { log ≡ None → writer.new ≡ writer.old }
+{
+    let mut until = Attended::new(Desk::new(alloc, outside, standing, book, told, until));
+    match serve_front(
+        alloc, node, port, naming, outside, front, turns, &mut until, log, writer,
+    ) {
+        Ok(served) => Ok((served, until.attendant.into_until())),
+        Err(fault) => Err(fault),
+    }
+}
+
 /// Returns the content of the log's line of a store's rows, or None if there is no log.
 ///
-/// The store was opened for the tokens of `book`.
+/// The store was opened for the tokens of `book`, whose print is `print`.
 fn roster_of(
     alloc: Global,
     is_logged: bool,
@@ -150,6 +232,35 @@ fn roster_of(
     }))
 }
 
+/// Returns what stays of a node that begins at `moment`, whose log has the content `start` in its first line.
+fn standing_of(
+    alloc: Global,
+    naming: &Naming,
+    place: Place,
+    moment: u64,
+    start: Start,
+    book: &Book,
+) -> Result<Standing, Fault>
+    ensures standing { IfOk result (λ standing. (standing.place ≡ place) × (standing.started ≡ moment)
+        × (standing.fingerprint ≡ start.fingerprint)
+        × (standing.book ≡ Some (book_print_of naming.now.key book.now))) }
+    ensures fault { IfErr result (λ fault. fault ≡ Fault.Memory) }
+{
+    let Ok(print) = book_print(alloc, &naming.key, book) else {
+        return Err(Fault::Memory);
+    };
+    let version = version_of(VERSION.as_bytes());
+    let fingerprint = start.fingerprint;
+    let book = Some(print);
+    Ok(Standing {
+        place,
+        version,
+        started: moment,
+        fingerprint,
+        book,
+    })
+}
+
 /// Returns the names of the tokens of a users file, with their index.
 fn indexed_names(alloc: Global, named: &NamedUsers) -> Result<Names, Fault>
     ensures names { IfOk result (λ names. names ≡ map (λ entry. entry.name) named.now.entries.items) }
@@ -167,7 +278,7 @@ fn indexed_names(alloc: Global, named: &NamedUsers) -> Result<Names, Fault>
 }
 
 /// Opens a node over its store by names in a new boot, binds a UDP socket to its address, and serves it for the given
-/// turns, or until `until` ends them.
+/// turns, or until `until` ends them. Returns `until` too.
 ///
 /// The socket is bound if `socket` isn't yet, and stays bound.
 ///
@@ -192,7 +303,7 @@ pub fn serve_named_store<
     D: Database<S>,
     N: Net + TimeSource,
     W: Write,
-    U: Until,
+    U: Stop + Drop,
 >(
     alloc: Global,
     outside: &N,
@@ -202,14 +313,14 @@ pub fn serve_named_store<
     cluster: &NamedCluster,
     database: D,
     socket: &mut KeptSocket,
-    until: &mut U,
+    until: U,
     writer: &mut W,
-) -> Result<Served, RosterFault>
+) -> Result<(Served, U), RosterFault>
     requires { IsMoment moment }
     ensures served { IfOk result (λ served. IfSome (R.remaining users)
-        (HasServedNamed S.Store D.finds cluster.now moment serving.entry (U.answers until.new) (Ok served))) }
+        (HasServedNamed S.Store D.finds cluster.now moment serving.entry (U.answers served.1) (Ok served.0))) }
     ensures fault { IfErr result (λ fault. IfSome (R.remaining users)
-        (EndsServingNamed S.Store D.finds cluster.now moment serving.entry (U.answers until.new) fault)) }
+        (EndsServingNamed S.Store D.finds cluster.now moment serving.entry fault)) }
     ensures unlogged { serving.entry.is_logged ≡ false → writer.new ≡ writer.old }
 {
     let Serving {
@@ -222,7 +333,8 @@ pub fn serve_named_store<
         lines,
     } = serving;
     let node = place.me();
-    let (named, store, counts) = open_named_store(
+    let own_key = key.again();
+    let (named, store, counts, rows) = open_named_store(
         alloc, users, settings, moment, node, cluster, database,
     )?;
     let book = &named.users.book;
@@ -247,8 +359,17 @@ pub fn serve_named_store<
     let front = front_of(alloc, place.me(), lines, outside)?;
     let roster = roster_of(alloc, is_logged, counts, book, &naming.key)?;
     let log = log_of(is_logged, start, roster, place);
-    let served = serve_front(
-        alloc, &mut node, port, &naming, outside, front, turns, until, log, writer,
+    let standing = standing_of(alloc, &naming, place, moment, start, book)?;
+    let told = NamedRows {
+        node: place.me(),
+        book,
+        roster: rows,
+        own: &cluster.bond,
+        key: own_key.own().as_slice(),
+    };
+    let served = serve_desk(
+        alloc, &mut node, port, &naming, outside, front, turns, standing, book, told, until, log,
+        writer,
     )?;
     Ok(served)
 }

@@ -1,4 +1,3 @@
 pub mod FaultLemmas
 pub mod SeenLemmas
 pub mod CommandLemmas
-pub mod RosterLemmas

@@ -1,6 +1,5 @@
 pub mod Commands
 pub mod Examples
 pub mod Fault
-pub mod Roster
 pub mod Seen
 pub mod Unlock

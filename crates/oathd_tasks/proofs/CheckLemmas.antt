@@ -10,7 +10,7 @@ use Rattle.oathd_tasks.specs.Check.{CheckEndsSo, EndsUsersSo, HasChecked, IsKeyI
 use Rattle.oathd_tasks.specs.File.{IsOfFile}
 use Rattle.oathd_tasks.specs.Nodes.{IsOfKey}
 use Rattle.oathd_tasks.specs.declared.fault.Fault.{Fault}
-use Rattle.oathd_tasks.specs.declared.fault.Fault.TheVariants.{Run, Sim, Cluster, CannotReadFile, NoDatabases, ClusterFile, ClientsFile, NoMember, KeyPath, ByteOrderMark, NoRandom}
+use Rattle.oathd_tasks.specs.declared.fault.Fault.TheVariants.{Run, Sim, Cluster, CannotReadFile, NoDatabases, ClusterFile, ClientsFile, NoMember, KeyPath, Ask, ByteOrderMark, NoRandom}
 
 -- what was refused of a text is written on with a fault of its own
 pub refused_writing : (text : List ℕ) (key : List ℕ) (cluster : ClusterRecord) (users : Option (List ℕ)) (fault : lines_fault.Fault) (old new : Option (List ℕ))
@@ -40,6 +40,7 @@ unread text users NoDatabases out is = absurd is
 unread text users (ClusterFile fault) out is = (is, refl)
 unread text users (NoMember node) out is = absurd is
 unread text users KeyPath out is = absurd is
+unread text users (Ask fault) out is = absurd is
 unread text users (ClientsFile fault) out is = absurd is
 unread text users ByteOrderMark out is = absurd is
 unread text users NoRandom out is = absurd is
@@ -61,6 +62,7 @@ without_key text users NoDatabases out is = absurd is
 without_key text users (ClusterFile fault) out is = absurd is
 without_key text users (NoMember node) out is = absurd is
 without_key text users KeyPath out is = refl
+without_key text users (Ask fault) out is = absurd is
 without_key text users (ClientsFile fault) out is = absurd is
 without_key text users ByteOrderMark out is = absurd is
 without_key text users NoRandom out is = absurd is
@@ -83,6 +85,7 @@ ends_checked text cluster key users old new (Err NoDatabases) said has h = absur
 ends_checked text cluster key users old new (Err (ClusterFile fault)) said has h = absurd h
 ends_checked text cluster key users old new (Err (NoMember node)) said has h = absurd h
 ends_checked text cluster key users old new (Err KeyPath) said has h = absurd h
+ends_checked text cluster key users old new (Err (Ask fault)) said has h = absurd h
 ends_checked text cluster key users old new (Err (ClientsFile fault)) said has h = absurd h
 ends_checked text cluster key users old new (Err ByteOrderMark) said has h = h
 ends_checked text cluster key users old new (Err NoRandom) said has h = absurd h
@@ -104,6 +107,7 @@ without_users text users NoDatabases out is = absurd is
 without_users text users (ClusterFile fault) out is = absurd is
 without_users text users (NoMember node) out is = absurd is
 without_users text users KeyPath out is = absurd is
+without_users text users (Ask fault) out is = absurd is
 without_users text users (ClientsFile fault) out is = absurd is
 without_users text users ByteOrderMark out is = absurd is
 without_users text users NoRandom out is = absurd is
@@ -131,6 +135,7 @@ any_check text users (Err (CannotReadFile path)) old new h = h
 any_check text users (Err NoDatabases) old new h = h
 any_check text users (Err (NoMember node)) old new h = h
 any_check text users (Err KeyPath) old new h = h
+any_check text users (Err (Ask fault)) old new h = h
 any_check text users (Err (ClientsFile fault)) old new h = h
 any_check text users (Err NoRandom) old new h = h
 

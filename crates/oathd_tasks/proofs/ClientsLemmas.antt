@@ -5,7 +5,7 @@ use Rattle.oathd_lines.specs.declared.fault.Fault.TheVariants.{BadKey, CannotRea
 use Rattle.oathd_tasks.specs.Clients.{IsOfClientsFile}
 use Rattle.oathd_tasks.specs.File.{IsOfFile}
 use Rattle.oathd_tasks.specs.declared.fault.Fault.{Fault}
-use Rattle.oathd_tasks.specs.declared.fault.Fault.TheVariants.{Run, Sim, Cluster, CannotReadFile, NoDatabases, ClusterFile, ClientsFile, NoMember, KeyPath, ByteOrderMark, NoRandom}
+use Rattle.oathd_tasks.specs.declared.fault.Fault.TheVariants.{Run, Sim, Cluster, CannotReadFile, NoDatabases, ClusterFile, ClientsFile, NoMember, KeyPath, Ask, ByteOrderMark, NoRandom}
 
 -- a file that cannot be read
 of_file : (fault : Fault) → IsOfFile fault → IsOfClientsFile fault
@@ -23,6 +23,7 @@ of_file NoDatabases is = is
 of_file (ClusterFile fault) is = is
 of_file (NoMember node) is = is
 of_file KeyPath is = is
+of_file (Ask fault) is = absurd is
 of_file (ClientsFile fault) is = absurd is
 of_file ByteOrderMark is = is
 of_file NoRandom is = is

@@ -14,7 +14,7 @@ use Rattle.oathd_sim.specs.Sim.{Setup}
 use Rattle.oathd_words.specs.declared.nodes_words.NodesWords.{NodesWords}
 use Rattle.oathd_words.specs.declared.nodes_words.NodesWords.TheVariants.{Given, Named}
 use Rattle.oathd_words.specs.declared.words.Task.{Task}
-use Rattle.oathd_words.specs.declared.words.Task.TheVariants.{Lines, Sim as SimTask, Cluster as ClusterTask, Store, Check, NewKey, NewCluster, Secret, SecretOfInput}
+use Rattle.oathd_words.specs.declared.words.Task.TheVariants.{Lines, Sim as SimTask, Cluster as ClusterTask, Store, Ask, Survey, Check, NewKey, NewCluster, Secret, SecretOfInput}
 use Rattle.users_input.specs.Input.{lines_of}
 use Rattle.oathd_tasks.specs.NewCluster.{NewClusterEndsSo}
 use Rattle.oathd_tasks.specs.NewKey.{NewKeyEndsSo}
@@ -137,6 +137,9 @@ EndsAsAsked (SimTask nodes moment) text input result old new =
 EndsAsAsked (ClusterTask users nodes moment) text input result old new =
     EndsWithSetup nodes moment text (λ setup. ClusterEndsSo setup.nodes input result old new) result old new
 EndsAsAsked (Store database users action) text input result old new = (result ≡ Err NoDatabases) × (new ≡ old)
+-- What a running node tells is no claim of the program that asks it.
+EndsAsAsked (Ask address node operator inquiry) text input result old new = Unit {0}
+EndsAsAsked (Survey cluster operator) text input result old new = Unit {0}
 EndsAsAsked (Check users cluster) text input result old new = CheckEndsSo text None result old new
 EndsAsAsked NewKey text input result old new = NewKeyEndsSo result old new
 EndsAsAsked NewCluster text input result old new = NewClusterEndsSo result old new

@@ -4,12 +4,15 @@ ghost use Rattle.oathd_lines.specs.Secret.{EndsWithText};
 ghost use Rattle.oathd_tasks.specs.Nodes.{ClusterEndsSo, EndsAsAsked, IsSetupInRange, LinesEndSo, SimEndsSo, setup_value};
 ghost use Rattle.oathd_words.specs.Words.{IsInRange};
 
+use crate::asking::{asked, asker, operator_at};
 use crate::check::check;
+use crate::cluster::cluster_in;
 use crate::fault::Fault;
 use crate::new_cluster::print_new_cluster;
 use crate::new_key::print_new_key;
 use crate::secret_input::print_secret_of;
 use crate::setup::{NodesSetup, nodes_setup};
+use oathd_asking::{AskedNode, inquire, survey};
 use oathd_cluster::run_cluster;
 use oathd_lines::{print_secret, serve_lines};
 use oathd_sim::run_sim;
@@ -21,6 +24,7 @@ use std::io::{Read, Write};
 use std::net::Net;
 use std::random::RandomSource;
 use std::rt::Files;
+use std::time::Clock as TimeSource;
 use token_file::MAX_FILE_LEN;
 
 /// Answers the lines of the input by a node with this setup.
@@ -131,7 +135,7 @@ fn run_nodes<'a, F: Files + Net, R: Read, O: Write>(
 /// # Errors
 /// - Returns `NoDatabases` for a command over a database.
 /// - Returns the fault that ends the command.
-pub fn perform<'a, F: Files + Net + RandomSource, R: Read, O: Write>(
+pub fn perform<'a, F: Files + Net + RandomSource + TimeSource, R: Read, O: Write>(
     alloc: Global,
     files: &F,
     task: &Task<'a>,
@@ -163,6 +167,27 @@ pub fn perform<'a, F: Files + Net + RandomSource, R: Read, O: Write>(
         Task::Check { users, .. } => {
             let mut rows = Vec::new(alloc);
             check(alloc, files, cluster, users, &mut rows, held)
+        }
+        Task::Ask {
+            address,
+            node,
+            operator,
+            inquiry,
+        } => {
+            let operator = operator_at(alloc, files, operator)?;
+            let mut asker = asker(files)?;
+            let node = AskedNode {
+                address: *address,
+                number: *node,
+                operator: &operator,
+            };
+            asked(inquire(alloc, &mut asker, node, *inquiry, held))
+        }
+        Task::Survey { operator, .. } => {
+            let members = cluster_in(alloc, cluster)?.members;
+            let operator = operator_at(alloc, files, operator)?;
+            let mut asker = asker(files)?;
+            asked(survey(alloc, &mut asker, &operator, &members, held))
         }
         Task::NewKey => print_new_key(files, held),
         Task::NewCluster => print_new_cluster(files, held),

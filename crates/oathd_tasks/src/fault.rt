@@ -2,6 +2,7 @@ use crate::commands::perform;
 use crate::program::{PROGRAM, TaskFault};
 use clients_file::ClientsFault;
 use cluster_file::ClusterFault;
+use oathd_asking::AskFault;
 use oathd_words::Task;
 use program_edge::{OutsideFault, ProgramFault, exit_status};
 use std::alloc::Global;
@@ -35,6 +36,9 @@ pub enum Fault<'a> {
     /// The path of the key in the cluster file is not UTF-8.
     #[error("cluster key-file is not text")]
     KeyPath,
+    /// A fault of a command to running nodes.
+    #[error("{0}")]
+    Ask(AskFault<'a>),
     /// The clients file has a fault.
     #[error("clients {0}")]
     ClientsFile(ClientsFault),
@@ -55,6 +59,7 @@ impl ProgramFault for Fault<'_> {
         match self {
             Fault::Run(fault) => fault.status(),
             Fault::Cluster(fault) => fault.status(),
+            Fault::Ask(fault) => fault.status(),
             Fault::Sim(_)
             | Fault::CannotReadFile(_)
             | Fault::NoDatabases

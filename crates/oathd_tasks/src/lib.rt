@@ -6,6 +6,7 @@
 #![tactic(auto)]
 
 mod advice;
+mod asking;
 mod check;
 mod clients;
 mod cluster;

@@ -1,21 +1,26 @@
 -- What the words of a command don't ask for.
-use Rattle.std.proofs.Common.{◌≡◌, ℕ, ◌+◌, ◌*◌, ◌<◌, Bool, true, false, List, [], ◌∷◌, Option, Some, None, length, slice_index, refl, sym, ap, ◌∙◌, lit<, arith}
+use Rattle.std.proofs.Common.{◌≡◌, ℕ, ◌+◌, ◌*◌, ◌<◌, Bool, true, false, List, [], ◌∷◌, Option, Some, None, length, slice_index, refl, sym, ap, subst, ◌∙◌, lit<, arith}
 use Rattle.std.specs.Prelude.{IfNone, codes}
 use Rattle.std.specs.List.{list_any}
 use Rattle.std.specs.Str.{bytes_eq}
 use Rattle.std.proofs.lemmas.Bool.{false≢true}
+use Rattle.std.specs.Net.Grammar.{IsSocketV4Text}
 use Rattle.clap.specs.Matches.{first_value}
 use Rattle.clap.specs.declared.parser.matches.Found.{Found}
+use Rattle.std.specs.declared.net.socket_addr.SocketAddrV4.{SocketAddrV4}
 use Rattle.oathd_words.specs.Given.{GivesMember, is_flag}
+use Rattle.oathd_words.specs.InquiryWords.{AsksForInquiry, AsksMembers, AsksNode, GivesAddress}
 use Rattle.oathd_words.specs.NodesWords.{AsksForNodes}
 use Rattle.oathd_words.specs.StoreWords.{AsksForAct, AsksForAction, AsksForStore, GivesMoment}
 use Rattle.oathd_words.specs.Words.{AsksForNothing, AsksToCheck}
+use Rattle.oathd_words.specs.declared.inquiry_words.Inquiry.{Inquiry}
+use Rattle.oathd_words.specs.declared.inquiry_words.Inquiry.TheVariants as inquiries
 use Rattle.oathd_words.specs.declared.nodes_words.NodesWords.{NodesWords}
 use Rattle.oathd_words.specs.declared.store_words.Action.{Action}
 use Rattle.oathd_words.specs.declared.store_words.Action.TheVariants.{Init, Remake, Serve, Export, Audit, Migrate, Floors, Level, Gates, Unlock, Named}
 use Rattle.oathd_words.specs.declared.store_words.NamedAct.{NamedAct}
 use Rattle.oathd_words.specs.declared.store_words.NamedAct.TheVariants as acts
-use Rattle.oathd_words.specs.declared.words.Task.TheVariants.{Lines, Sim, Cluster, Store, Check, NewKey, NewCluster, Secret, SecretOfInput}
+use Rattle.oathd_words.specs.declared.words.Task.TheVariants.{Lines, Sim, Cluster, Store, Ask, Survey, Check, NewKey, NewCluster, Secret, SecretOfInput}
 
 -- a number that distinguishes the names of the commands
 abbrev mark : List ℕ → ℕ
@@ -109,6 +114,45 @@ no_store : (name other : List ℕ) (found : Found) → name ≡ other → is_sto
 no_store name other found is others action asks =
     false≢true (sym others ∙ ap is_store_name (sym is ∙ named_so name found action asks) ∙ store_named action)
 
+-- ---- The names of the commands that ask running nodes
+
+-- the name of the command of an inquiry
+abbrev inquiry_name : Inquiry → List ℕ
+inquiry_name inquiries.Status = codes "status"
+inquiry_name inquiries.Gates = codes "gates"
+inquiry_name inquiries.Floors = codes "floors"
+inquiry_name inquiries.Audit = codes "audit"
+inquiry_name inquiries.Roster = codes "roster"
+inquiry_name inquiries.Drain = codes "drain"
+inquiry_name (inquiries.Unlock user) = codes "unlock"
+
+abbrev is_asking_name : List ℕ → Bool
+is_asking_name name = list_any (bytes_eq name) (codes "status" ∷ codes "gates" ∷ codes "floors" ∷ codes "audit" ∷ codes "roster" ∷ codes "drain"
+    ∷ codes "unlock" ∷ [])
+
+inquiry_asked : (inquiry : Inquiry) → is_asking_name (inquiry_name inquiry) ≡ true
+inquiry_asked inquiries.Status = refl
+inquiry_asked inquiries.Gates = refl
+inquiry_asked inquiries.Floors = refl
+inquiry_asked inquiries.Audit = refl
+inquiry_asked inquiries.Roster = refl
+inquiry_asked inquiries.Drain = refl
+inquiry_asked (inquiries.Unlock user) = refl
+
+inquired_so : (name : List ℕ) (found : Found) (inquiry : Inquiry) → AsksForInquiry name found inquiry → name ≡ inquiry_name inquiry
+inquired_so name found inquiries.Status asks = asks
+inquired_so name found inquiries.Gates asks = asks
+inquired_so name found inquiries.Floors asks = asks
+inquired_so name found inquiries.Audit asks = asks
+inquired_so name found inquiries.Roster asks = asks
+inquired_so name found inquiries.Drain asks = asks
+inquired_so name found (inquiries.Unlock user) asks = asks.0
+
+-- a command with another name asks no node
+no_ask : (name other : List ℕ) (found : Found) → name ≡ other → is_asking_name other ≡ false → (inquiry : Inquiry) → AsksForInquiry name found inquiry → ⊥
+no_ask name other found is others inquiry asks =
+    false≢true (sym others ∙ ap is_asking_name (sym is ∙ inquired_so name found inquiry asks) ∙ inquiry_asked inquiry)
+
 -- ---- The other names in order of their marks: check, cluster, lines, new-key, new-cluster, sim, secret
 
 module _ (name : List ℕ) (found : Found) where
@@ -124,6 +168,8 @@ module _ (name : List ℕ) (found : Found) where
   not_for_lines is none (Sim nodes moment) asks = apart name _ _ is asks.0 (lit< tt)
   not_for_lines is none (Cluster users nodes moment) asks = apart name _ _ asks.0 is (lit< tt)
   not_for_lines is none (Store database users action) asks = no_store name (codes "lines") found is refl action asks.2
+  not_for_lines is none (Ask address node operator inquiry) asks = no_ask name (codes "lines") found is refl inquiry asks.inquiry_is
+  not_for_lines is none (Survey file operator) asks = no_ask name (codes "lines") found is refl inquiries.Status asks.command
 
   pub not_for_sim : name ≡ codes "sim"
       → ((nodes : NodesWords) (moment : ℕ) → AsksForNodes (GivesMember found (codes "N")) found nodes → GivesMoment found (Some moment) → ⊥)
@@ -137,6 +183,8 @@ module _ (name : List ℕ) (found : Found) where
   not_for_sim is none (Sim nodes moment) asks = none nodes moment asks.1 asks.2
   not_for_sim is none (Cluster users nodes moment) asks = apart name _ _ asks.0 is (lit< tt)
   not_for_sim is none (Store database users action) asks = no_store name (codes "sim") found is refl action asks.2
+  not_for_sim is none (Ask address node operator inquiry) asks = no_ask name (codes "sim") found is refl inquiry asks.inquiry_is
+  not_for_sim is none (Survey file operator) asks = no_ask name (codes "sim") found is refl inquiries.Status asks.command
 
   pub not_for_cluster : name ≡ codes "cluster"
       → ((users : List ℕ) (nodes : NodesWords) (moment : ℕ) → first_value found (codes "USERS") ≡ Some users
@@ -151,6 +199,8 @@ module _ (name : List ℕ) (found : Found) where
   not_for_cluster is none (Sim nodes moment) asks = apart name _ _ is asks.0 (lit< tt)
   not_for_cluster is none (Cluster users nodes moment) asks = none users.now nodes moment asks.1 asks.2 asks.3
   not_for_cluster is none (Store database users action) asks = no_store name (codes "cluster") found is refl action asks.2
+  not_for_cluster is none (Ask address node operator inquiry) asks = no_ask name (codes "cluster") found is refl inquiry asks.inquiry_is
+  not_for_cluster is none (Survey file operator) asks = no_ask name (codes "cluster") found is refl inquiries.Status asks.command
 
   pub not_for_secret : name ≡ codes "secret"
       → (first_value found (codes "HEX") ≡ None) × (is_flag (first_value found (codes "stdin")) ≡ false) → AsksForNothing name found
@@ -163,6 +213,8 @@ module _ (name : List ℕ) (found : Found) where
   not_for_secret is none (Sim nodes moment) asks = apart name _ _ asks.0 is (lit< tt)
   not_for_secret is none (Cluster users nodes moment) asks = apart name _ _ asks.0 is (lit< tt)
   not_for_secret is none (Store database users action) asks = no_store name (codes "secret") found is refl action asks.2
+  not_for_secret is none (Ask address node operator inquiry) asks = no_ask name (codes "secret") found is refl inquiry asks.inquiry_is
+  not_for_secret is none (Survey file operator) asks = no_ask name (codes "secret") found is refl inquiries.Status asks.command
 
   pub not_for_check : name ≡ codes "check" → ((users cluster : List ℕ) → AsksToCheck found users cluster → ⊥) → AsksForNothing name found
   not_for_check is none (Lines nodes moment) asks = apart name _ _ is asks.0 (lit< tt)
@@ -174,21 +226,27 @@ module _ (name : List ℕ) (found : Found) where
   not_for_check is none (Sim nodes moment) asks = apart name _ _ is asks.0 (lit< tt)
   not_for_check is none (Cluster users nodes moment) asks = apart name _ _ is asks.0 (lit< tt)
   not_for_check is none (Store database users action) asks = no_store name (codes "check") found is refl action asks.2
+  not_for_check is none (Ask address node operator inquiry) asks = no_ask name (codes "check") found is refl inquiry asks.inquiry_is
+  not_for_check is none (Survey file operator) asks = no_ask name (codes "check") found is refl inquiries.Status asks.command
 
   -- a name of no other command
   pub not_for_store : (name ≡ codes "lines" → ⊥) → (name ≡ codes "sim" → ⊥) → (name ≡ codes "cluster" → ⊥) → (name ≡ codes "check" → ⊥)
       → (name ≡ codes "new-key" → ⊥) → (name ≡ codes "new-cluster" → ⊥) → (name ≡ codes "secret" → ⊥)
       → ((database users : List ℕ) (action : Action) → AsksForStore name found database users action → ⊥)
+      → ((address : SocketAddrV4) (node : ℕ) (operator : List ℕ) (inquiry : Inquiry) → AsksNode name found address node operator inquiry → ⊥)
+      → ((file operator : List ℕ) → AsksMembers name found file operator → ⊥)
       → AsksForNothing name found
-  not_for_store lines sim cluster check new_key new_cluster secret none (Lines nodes moment) asks = lines asks.0
-  not_for_store lines sim cluster check new_key new_cluster secret none NewKey asks = new_key asks
-  not_for_store lines sim cluster check new_key new_cluster secret none NewCluster asks = new_cluster asks
-  not_for_store lines sim cluster check new_key new_cluster secret none (Secret hex) asks = secret asks.0
-  not_for_store lines sim cluster check new_key new_cluster secret none SecretOfInput asks = secret asks.0
-  not_for_store lines sim cluster check new_key new_cluster secret none (Check users file) asks = check asks.0
-  not_for_store lines sim cluster check new_key new_cluster secret none (Sim nodes moment) asks = sim asks.0
-  not_for_store lines sim cluster check new_key new_cluster secret none (Cluster users nodes moment) asks = cluster asks.0
-  not_for_store lines sim cluster check new_key new_cluster secret none (Store database users action) asks = none _ _ _ asks
+  not_for_store lines sim cluster check new_key new_cluster secret none ask survey (Lines nodes moment) asks = lines asks.0
+  not_for_store lines sim cluster check new_key new_cluster secret none ask survey NewKey asks = new_key asks
+  not_for_store lines sim cluster check new_key new_cluster secret none ask survey NewCluster asks = new_cluster asks
+  not_for_store lines sim cluster check new_key new_cluster secret none ask survey (Secret hex) asks = secret asks.0
+  not_for_store lines sim cluster check new_key new_cluster secret none ask survey SecretOfInput asks = secret asks.0
+  not_for_store lines sim cluster check new_key new_cluster secret none ask survey (Check users file) asks = check asks.0
+  not_for_store lines sim cluster check new_key new_cluster secret none ask survey (Sim nodes moment) asks = sim asks.0
+  not_for_store lines sim cluster check new_key new_cluster secret none ask survey (Cluster users nodes moment) asks = cluster asks.0
+  not_for_store lines sim cluster check new_key new_cluster secret none ask survey (Store database users action) asks = none _ _ _ asks
+  not_for_store lines sim cluster check new_key new_cluster secret none ask survey (Ask address node operator inquiry) asks = ask _ _ _ _ asks
+  not_for_store lines sim cluster check new_key new_cluster secret none ask survey (Survey file operator) asks = survey _ _ asks
 
 -- without a node's number nothing is asked for by `init`
 pub no_init_node : (found : Found) → ((number : ℕ) → GivesMember found (codes "node") number → ⊥) → (action : Action)
@@ -210,7 +268,25 @@ pub none_then : {A : Type 0} (result : Option A) (P Q : Type 0) → IfNone resul
 none_then None P Q p then = then p
 none_then (Some x) P Q p then = tt
 
+-- two claims that hold without a result give what follows from both
+pub none_of_both : {A : Type 0} (result : Option A) (P Q R : Type 0) → IfNone result P → IfNone result Q → (P → Q → R) → IfNone result R
+none_of_both None P Q R p q then = then p q
+none_of_both (Some x) P Q R p q then = tt
+
 -- a claim that always holds also holds without a result
 pub where_none : {A : Type 0} (result : Option A) (P : Type 0) → P → IfNone result P
 where_none None P p = p
 where_none (Some x) P p = tt
+
+-- ---- The address of a node
+
+abbrev text_in : Option (List ℕ) → List ℕ
+text_in None = []
+text_in (Some text) = text
+
+-- a text that is no address gives none
+pub no_address : (found : Found) (text : List ℕ) → first_value found (codes "ADDRESS") ≡ Some text
+    → ((address : SocketAddrV4) → IsSocketV4Text text address → ⊥) → (address : SocketAddrV4) → GivesAddress found address → ⊥
+no_address found text given none address asks =
+    let alike : asks.text ≡ text = ap text_in (sym asks.given ∙ given) in
+    none address (subst (λ t. IsSocketV4Text t address) alike asks.says)

@@ -4,6 +4,7 @@ use Rattle.clap.specs.Matches.{first_value}
 use Rattle.clap.specs.declared.parser.matches.Found.{Found}
 use Rattle.otp_core.specs.Range.{IsMoment}
 use Rattle.oathd_words.specs.Given.{GivesMember, is_flag}
+use Rattle.oathd_words.specs.InquiryWords.{AsksMembers, AsksNode}
 use Rattle.oathd_words.specs.NodesWords.{AreNodesInRange, AsksForNodes, nodes_path}
 use Rattle.oathd_words.specs.StoreWords.{AsksForStore, GivesMoment, IsActionInRange}
 use Rattle.oathd_words.specs.declared.former_words.CountWords.{CountWords}
@@ -16,7 +17,7 @@ use Rattle.oathd_words.specs.declared.store_words.ClusterWords.TheVariants.{Give
 use Rattle.oathd_words.specs.declared.store_words.ImportWords.{ImportWords}
 use Rattle.oathd_words.specs.declared.store_words.ImportWords.TheVariants as imports
 use Rattle.oathd_words.specs.declared.words.Task.{Task}
-use Rattle.oathd_words.specs.declared.words.Task.TheVariants.{Lines, Sim, Cluster, Store, Check, NewKey, NewCluster, Secret, SecretOfInput}
+use Rattle.oathd_words.specs.declared.words.Task.TheVariants.{Lines, Sim, Cluster, Store, Ask, Survey, Check, NewKey, NewCluster, Secret, SecretOfInput}
 
 -- the paths of a users file and of a cluster file
 abbrev pub AsksToCheck : Found → List ℕ → List ℕ → Type 0
@@ -33,6 +34,8 @@ AsksFor name found (Cluster users nodes moment) =
     (name ≡ codes "cluster") × (first_value found (codes "USERS") ≡ Some users.now)
     × AsksForNodes (GivesMember found (codes "N")) found nodes × GivesMoment found (Some moment)
 AsksFor name found (Store database users action) = AsksForStore name found database.now users.now action
+AsksFor name found (Ask address node operator inquiry) = AsksNode name found address node operator.now inquiry
+AsksFor name found (Survey cluster operator) = AsksMembers name found cluster.now operator.now
 AsksFor name found (Check users cluster) =
     (name ≡ codes "check") × AsksToCheck found users.now cluster.now
 AsksFor name found NewKey = name ≡ codes "new-key"
@@ -51,6 +54,8 @@ IsInRange (Lines nodes moment) = AreNodesInRange nodes × IsMoment moment
 IsInRange (Sim nodes moment) = AreNodesInRange nodes × IsMoment moment
 IsInRange (Cluster users nodes moment) = AreNodesInRange nodes × IsMoment moment
 IsInRange (Store database users action) = IsActionInRange action
+IsInRange (Ask address node operator inquiry) = Unit {0}
+IsInRange (Survey cluster operator) = Unit {0}
 IsInRange (Check users cluster) = Unit {0}
 IsInRange NewKey = Unit {0}
 IsInRange NewCluster = Unit {0}
@@ -92,6 +97,8 @@ cluster_path_of (Lines nodes moment) = nodes_path nodes
 cluster_path_of (Sim nodes moment) = nodes_path nodes
 cluster_path_of (Cluster users nodes moment) = nodes_path nodes
 cluster_path_of (Store database users action) = path_of_action action
+cluster_path_of (Ask address node operator inquiry) = None
+cluster_path_of (Survey cluster operator) = Some cluster.now
 cluster_path_of (Check users cluster) = Some cluster.now
 cluster_path_of NewKey = None
 cluster_path_of NewCluster = None

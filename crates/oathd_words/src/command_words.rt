@@ -1,16 +1,18 @@
 //! The commands of `oathd`, in the form that clap takes.
 
 use crate::help::{
-    AUDIT_HELP, CHECK_HELP, CLUSTER_HELP, EXPORT_HELP, FLOORS_HELP, GATES_HELP, INIT_HELP,
-    LEVEL_HELP, LINES_HELP, MIGRATE_HELP, NEW_CLUSTER_HELP, NEW_KEY_HELP, PROGRAM_HELP,
-    ROSTER_HELP, SECRET_HELP, SERVE_HELP, SERVE_USAGE, SIM_HELP, UNLOCK_HELP, VERSION_HELP,
+    ASKING_HELP, AUDIT_HELP, CHECK_HELP, CLUSTER_HELP, DRAIN_HELP, EXPORT_HELP, FLOORS_HELP,
+    GATES_HELP, INIT_HELP, LEVEL_HELP, LINES_HELP, MIGRATE_HELP, NEW_CLUSTER_HELP, NEW_KEY_HELP,
+    PROGRAM_HELP, ROSTER_HELP, SECRET_HELP, SERVE_HELP, SERVE_USAGE, SIM_HELP, STATUS_HELP,
+    STATUS_USAGE, UNLOCK_HELP, VERSION_HELP,
 };
 use crate::option_words::{
-    ANEW, BEGINS, CHECKED_CLUSTER, CLIENTS, CLOCK_MOMENT, CLUSTER, COUNT_CLUSTER, DATABASE, DRIFT,
-    FLOORS, FOREVER, FORMER_FLOORS, HEX, IMPORT_CLUSTER, IMPORT_DRIFT, KEY, KEY_OR_ZEROS, LOG,
-    LOOK_AHEAD, LOST, MEMBER_COUNT, MEMBERS, MOMENT, NAMES_CLUSTER, NAMES_NODE, NODE, NODE_CLUSTER,
-    NODE_COUNT, NODES_CLUSTER, PLAIN_LINES, RANGE, RELOAD, SINCE, SINCE_NUMBER, SKEW, STDIN, TURNS,
-    USER, USERS, Word,
+    ADDRESS, ANEW, ASKED_NODE, BEGINS, CHECKED_CLUSTER, CLIENTS, CLOCK_MOMENT, CLUSTER,
+    COUNT_CLUSTER, DATABASE, DRIFT, FLOORS, FOREVER, FORMER_FLOORS, HEX, IMPORT_CLUSTER,
+    IMPORT_DRIFT, KEY, KEY_OR_ZEROS, LOG, LOOK_AHEAD, LOST, MEMBER_COUNT, MEMBERS, MOMENT,
+    NAMES_CLUSTER, NAMES_NODE, NODE, NODE_CLUSTER, NODE_COUNT, NODES_CLUSTER, OPERATOR,
+    PLAIN_LINES, RANGE, RELOAD, SINCE, SINCE_NUMBER, SKEW, STDIN, SURVEYED_ADDRESS,
+    SURVEYED_CLUSTER, TURNS, USER, USERS, Word,
 };
 use crate::store_words::is_given;
 use clap::error::ErrorKind;
@@ -46,11 +48,96 @@ const SETTINGS: &[Word] = &[
 /// What a command over the store of a node names.
 const STORE: &[Word] = &[Word::Text(DATABASE), Word::Text(USERS), Word::Text(NODE)];
 
+/// What a command to a running node names.
+const ASKED: &[Word] = &[
+    Word::Text(ADDRESS),
+    Word::Text(OPERATOR),
+    Word::Text(ASKED_NODE),
+];
+
+/// The command that prints the state of a running node.
+const STATUS: CommandWords = CommandWords {
+    word: "status",
+    whole: "oathd status",
+    about: "Prints the state of a running node, or of all",
+    usage: Some(STATUS_USAGE),
+    after_help: STATUS_HELP,
+    next_line_help: true,
+    words: &[&[
+        Word::Text(SURVEYED_ADDRESS),
+        Word::Text(SURVEYED_CLUSTER),
+        Word::Text(OPERATOR),
+        Word::Text(ASKED_NODE),
+    ]],
+};
+
+/// The command that ends a running node.
+const DRAIN: CommandWords = CommandWords {
+    word: "drain",
+    whole: "oathd drain",
+    about: "Ends a running node when no line waits",
+    usage: None,
+    after_help: DRAIN_HELP,
+    next_line_help: true,
+    words: &[ASKED],
+};
+
+/// The commands to running nodes, which `--operator` marks.
+pub(crate) const ASKING_COMMANDS: [CommandWords; 7] = [
+    STATUS,
+    CommandWords {
+        word: "gates",
+        whole: "oathd gates",
+        about: "Prints the failures that a running node counts",
+        usage: None,
+        after_help: ASKING_HELP,
+        next_line_help: true,
+        words: &[ASKED],
+    },
+    CommandWords {
+        word: "unlock",
+        whole: "oathd unlock",
+        about: "Forgets the failures of a user at a running node",
+        usage: None,
+        after_help: ASKING_HELP,
+        next_line_help: true,
+        words: &[ASKED, &[Word::Text(USER)]],
+    },
+    CommandWords {
+        word: "floors",
+        whole: "oathd floors",
+        about: "Prints the floors of a running node, for other nodes",
+        usage: None,
+        after_help: ASKING_HELP,
+        next_line_help: true,
+        words: &[ASKED],
+    },
+    CommandWords {
+        word: "audit",
+        whole: "oathd audit",
+        about: "Prints what a running node accepted",
+        usage: None,
+        after_help: ASKING_HELP,
+        next_line_help: true,
+        words: &[ASKED],
+    },
+    CommandWords {
+        word: "roster",
+        whole: "oathd roster",
+        about: "Prints the rows of a running node's store by names",
+        usage: None,
+        after_help: ASKING_HELP,
+        next_line_help: true,
+        words: &[ASKED],
+    },
+    DRAIN,
+];
+
 /// The command that prints the version, as `--version` does.
 pub(crate) const VERSION_COMMAND: &str = "version";
 
 /// The commands in the order of the help. Clap's own command `help` follows.
-pub(crate) const COMMANDS: [CommandWords; 18] = [
+pub(crate) const COMMANDS: [CommandWords; 20] = [
     CommandWords {
         word: "lines",
         whole: "oathd lines",
@@ -210,6 +297,8 @@ pub(crate) const COMMANDS: [CommandWords; 18] = [
         next_line_help: true,
         words: &[STORE, &[Word::Text(CHECKED_CLUSTER)]],
     },
+    STATUS,
+    DRAIN,
     CommandWords {
         word: "check",
         whole: "oathd check",
@@ -430,6 +519,14 @@ fn number_or_former_error(
     number_error(alloc, usage, matches, numbers)
 }
 
+/// Returns the error that says what an address is.
+fn address_error(alloc: Global, usage: &mut Command<'_>, text: &str) -> Result<Error, AllocError> {
+    let text = format!(in alloc;
+        "invalid value '{text}' for '<ADDRESS>': the address of a node is an IPv4 address with a port"
+    )?;
+    usage.error(ErrorKind::ValueValidation, text.as_str())
+}
+
 /// Returns the error for values that ask for nothing.
 ///
 /// It names the first of `numbers` that is out of its range or has anything but digits. If there is none, it names
@@ -441,6 +538,9 @@ fn error_of(
     numbers: &[NumberOption],
     matches: &ArgMatches<'_>,
 ) -> Result<Error, AllocError> {
+    if let Some(text) = matches.get_str("ADDRESS") {
+        return address_error(alloc, usage, text);
+    }
     match matches.get_str("members") {
         Some(count) if numbers.is_empty() => count_error(alloc, usage, count),
         Some(members) if first_out_of_range(matches, numbers).is_none() => {

@@ -278,6 +278,43 @@ that is not used up. USER is - for a retired token, which is in no row of USERS.
 
 The status is 3 if the database fails, or holds no store of node I.";
 
+/// The usage of the command `status`, in its two forms.
+pub(crate) const STATUS_USAGE: &str = "\
+oathd status [OPTIONS] --operator <KEYFILE> <ADDRESS>
+       oathd status --operator <KEYFILE> --cluster <FILE>";
+
+/// The help of the command `status`, after its options.
+pub(crate) const STATUS_HELP: &str = "\
+Asks the running node at ADDRESS, and prints a line for each of its numbers:
+node, boot, version, clock, started, fingerprint, book, tokens, pending, closed,
+received, replied, accepted, refused, ticks, unopened and member.
+
+With --cluster it asks all members, and prints a table with a row for each:
+    NODE BOOT HEARD TOKENS FINGERPRINT BOOK NOTE
+The status is then 0 if each note is ok, 1 if a majority of the members answers,
+and else 2.
+
+The commands gates, floors, audit, roster and unlock ask a running node too, if
+they have --operator and ADDRESS in place of DB and USERS.
+
+KEYFILE is the key of an operator or a reader, which the node's clients file
+names. The status is 1 if the node refuses, and 4 if no answer comes.";
+
+/// The help of the command `drain`, after its options.
+pub(crate) const DRAIN_HELP: &str = "\
+Asks the running node at ADDRESS to end. It ends when no line waits for votes,
+after two seconds at the latest. KEYFILE is the key of an operator.
+
+The status is 1 if the node refuses, and 4 if no answer comes.";
+
+/// The help of the commands to a running node that have another form, after their options.
+pub(crate) const ASKING_HELP: &str = "\
+Asks the running node at ADDRESS, and prints what the command prints of a
+stopped node's DB. KEYFILE is the key of an operator or a reader, which the
+node's clients file names. A reader may not unlock.
+
+The status is 1 if the node refuses, and 4 if no answer comes.";
+
 /// The help of the command `check`, after its options.
 pub(crate) const CHECK_HELP: &str = "\
 FILE is the cluster file of oathd serve, and USERS its users file. Reads both as

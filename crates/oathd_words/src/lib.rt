@@ -4,6 +4,7 @@
 mod command_words;
 mod former_words;
 mod help;
+mod inquiry_words;
 mod laws;
 mod members;
 mod nodes_words;
@@ -12,6 +13,7 @@ mod store_words;
 mod words;
 
 pub use former_words::{CountWords, FormerWords};
+pub use inquiry_words::Inquiry;
 pub use laws::{
     client_words_are_worked, former_words_are_worked, members_can_be_broken,
     named_words_are_worked, paths_are_worked, ranges_can_be_broken,

@@ -583,3 +583,63 @@ pub(crate) const KEY_OR_ZEROS: TextWord = TextWord {
     is_digit: false,
     help: "A file of the cluster's key: 16 to 64 bytes in hexadecimal.\nWithout it the key is 32 zeros",
 };
+
+/// The address of a running node.
+pub(crate) const ADDRESS: TextWord = TextWord {
+    name: "ADDRESS",
+    value_name: None,
+    is_required: true,
+    unless: None,
+    conflicts: &[],
+    needs: &[],
+    is_digit: false,
+    help: "The address of the running node: 127.0.0.1:7001",
+};
+
+/// The address of a running node, which a cluster file replaces.
+pub(crate) const SURVEYED_ADDRESS: TextWord = TextWord {
+    name: "ADDRESS",
+    value_name: None,
+    is_required: false,
+    unless: Some("cluster"),
+    conflicts: &["cluster"],
+    needs: &[],
+    is_digit: false,
+    help: "The address of the running node: 127.0.0.1:7001",
+};
+
+/// The cluster file whose members are asked.
+pub(crate) const SURVEYED_CLUSTER: TextWord = TextWord {
+    name: "cluster",
+    value_name: Some("FILE"),
+    is_required: false,
+    unless: None,
+    conflicts: &["ADDRESS", "node"],
+    needs: &[],
+    is_digit: false,
+    help: "A cluster file: all its members are asked, and a table is printed",
+};
+
+/// The key of the operator.
+pub(crate) const OPERATOR: TextWord = TextWord {
+    name: "operator",
+    value_name: Some("KEYFILE"),
+    is_required: true,
+    unless: None,
+    conflicts: &[],
+    needs: &[],
+    is_digit: false,
+    help: "A file with one line: operator NUMBER KEY, or reader NUMBER KEY",
+};
+
+/// The number of the running node.
+pub(crate) const ASKED_NODE: TextWord = TextWord {
+    name: "node",
+    value_name: Some("I"),
+    is_required: false,
+    unless: None,
+    conflicts: &[],
+    needs: &[],
+    is_digit: true,
+    help: "The number of the node, 1 to 9 [default: 1]",
+};

@@ -6,10 +6,16 @@ ghost use Rattle.oathd_words.specs.Given.{GivesLimits, GivesMember, is_flag};
 ghost use Rattle.oathd_words.specs.NodesWords.{AsksForNodes};
 ghost use Rattle.oathd_words.specs.StoreWords.{AsksForStore, GivesMoment};
 ghost use Rattle.oathd_words.specs.Words.{AsksFor, AsksForNothing, AsksToCheck, IsInRange, cluster_path_of};
+ghost use Rattle.std.specs.declared.net.socket_addr.SocketAddrV4.{SocketAddrV4 as AnyAddress};
+ghost use Rattle.oathd_words.specs.InquiryWords.{AsksMembers, AsksNode};
+ghost use Rattle.oathd_words.specs.declared.inquiry_words.Inquiry.{Inquiry as AnyInquiry};
 ghost use Rattle.oathd_words.specs.declared.nodes_words.NodesWords.{NodesWords as AnyNodes};
 ghost use Rattle.oathd_words.specs.declared.store_words.Action.{Action as AnyAction};
 
-use crate::command_words::{COMMANDS, CommandWords, VERSION_COMMAND, program, value_error};
+use crate::command_words::{
+    ASKING_COMMANDS, COMMANDS, CommandWords, VERSION_COMMAND, program, value_error,
+};
+use crate::inquiry_words::{Inquiry, asked_address, asked_node, asks_running, inquiry_of};
 use crate::nodes_words::{NodesWords, nodes_words};
 use crate::store_words::{Action, is_given, read_action};
 use clap::error::ErrorKind;
@@ -17,6 +23,7 @@ use clap::{ArgMatches, Command, Error};
 use command_line::number_of;
 use otp_core::{MOMENTS_END, Settings};
 use std::alloc::{AllocError, Global};
+use std::net::SocketAddrV4;
 
 /// A task that the command line asks for. It has no Debug, which would show a secret.
 #[derive(Drop)]
@@ -49,6 +56,23 @@ pub enum Task<'a> {
         users: &'a str,
         action: Action<'a>,
     },
+    /// Asks a running node, and prints its report.
+    Ask {
+        /// The address of the node.
+        address: SocketAddrV4,
+        /// The number of the node: 1 to 9.
+        node: u8,
+        /// The path of the operator's key file.
+        operator: &'a str,
+        inquiry: Inquiry<'a>,
+    },
+    /// Asks all members of a cluster for their state, and prints a table.
+    Survey {
+        /// The path of the cluster file.
+        cluster: &'a str,
+        /// The path of the operator's key file.
+        operator: &'a str,
+    },
     /// Reads a node's files, except its database, and prints what all members share.
     Check {
         /// The path of the users file.
@@ -80,8 +104,12 @@ impl<'a> Task<'a> {
                 nodes.cluster_path()
             }
             Task::Store { action, .. } => action.cluster_path(),
-            Task::Check { cluster, .. } => Some(*cluster),
-            Task::NewKey | Task::NewCluster | Task::SecretOfInput | Task::Secret { .. } => None,
+            Task::Check { cluster, .. } | Task::Survey { cluster, .. } => Some(*cluster),
+            Task::Ask { .. }
+            | Task::NewKey
+            | Task::NewCluster
+            | Task::SecretOfInput
+            | Task::Secret { .. } => None,
         }
     }
 }
@@ -193,6 +221,57 @@ fn secret_task<'a>(matches: &ArgMatches<'a>) -> Option<Task<'a>>
     Some(Task::Secret { hex })
 }
 
+/// Returns the task of `status` for all members, or `None` if a value is missing.
+fn survey_task<'a>(name: &str, matches: &ArgMatches<'a>) -> Option<Task<'a>>
+    ensures some { IfSome result (AsksFor name.now (found_of matches.now)) }
+    ensures none { IfNone result ((cluster operator : List ℕ)
+        → AsksMembers name.now (found_of matches.now) cluster operator → ⊥) }
+{
+    if name != "status" {
+        return None;
+    }
+    let operator = matches.get_str("operator")?;
+    let cluster = matches.get_str("cluster")?;
+    Some(Task::Survey { cluster, operator })
+}
+
+/// Returns the task of the command `name` that asks one node, or `None` if it is no such command or a value is wrong.
+fn node_task<'a>(name: &str, matches: &ArgMatches<'a>) -> Option<Task<'a>>
+    ensures some { IfSome result (AsksFor name.now (found_of matches.now)) }
+    ensures none { IfNone result ((address : AnyAddress) (node : ℕ) (operator : List ℕ) (inquiry : AnyInquiry)
+        → AsksNode name.now (found_of matches.now) address node operator inquiry → ⊥) }
+{
+    if matches.get_str("cluster").is_some() {
+        return None;
+    }
+    let operator = matches.get_str("operator")?;
+    let address = asked_address(matches)?;
+    let node = asked_node(matches)?;
+    match inquiry_of(name, matches) {
+        Some(inquiry) => Some(Task::Ask {
+            address,
+            node,
+            operator,
+            inquiry,
+        }),
+        None => None,
+    }
+}
+
+/// Returns the task of the command `name` that asks running nodes, or `None` if it is none or a value is wrong.
+fn ask_task<'a>(name: &str, matches: &ArgMatches<'a>) -> Option<Task<'a>>
+    ensures some { IfSome result (AsksFor name.now (found_of matches.now)) }
+    ensures node { IfNone result ((address : AnyAddress) (node : ℕ) (operator : List ℕ) (inquiry : AnyInquiry)
+        → AsksNode name.now (found_of matches.now) address node operator inquiry → ⊥) }
+    ensures members { IfNone result ((cluster operator : List ℕ)
+        → AsksMembers name.now (found_of matches.now) cluster operator → ⊥) }
+{
+    match survey_task(name, matches) {
+        Some(task) => Some(task),
+        None => node_task(name, matches),
+    }
+}
+
 /// Returns the task of the command `name`, or `None` if it is no command over a database or a value is wrong.
 fn store_task<'a>(
     alloc: Global,
@@ -233,7 +312,10 @@ fn task_of<'a>(
         "new-key" => Ok(Some(Task::NewKey)),
         "new-cluster" => Ok(Some(Task::NewCluster)),
         "secret" => Ok(secret_task(matches)),
-        _ => store_task(alloc, name, matches),
+        _ => match store_task(alloc, name, matches)? {
+            Some(task) => Ok(Some(task)),
+            None => Ok(ask_task(name, matches)),
+        },
     }
 }
 
@@ -295,5 +377,9 @@ fn read<'a>(
 pub fn read_words<'a>(alloc: Global, words: &'a [String]) -> Result<Task<'a>, Error>
     ensures { IfOk result IsInRange }
 {
-    read(alloc, &COMMANDS, words)
+    if asks_running(words) {
+        read(alloc, &ASKING_COMMANDS, words)
+    } else {
+        read(alloc, &COMMANDS, words)
+    }
 }

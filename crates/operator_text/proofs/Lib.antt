@@ -7,3 +7,4 @@ pub mod ReadingLemmas
 pub mod RequestLemmas
 pub mod StatusLemmas
 pub mod SpellingLemmas
+mod ReplyLemmas

@@ -3,6 +3,7 @@ pub mod Number
 pub mod Page
 pub mod Pages
 pub mod Reading
+pub mod Reply
 pub mod Request
 pub mod Status
 pub mod StatusLine

@@ -1,9 +1,11 @@
-ghost use Rattle.std.specs.Prelude.{◌≡◌, ◌↔◌, ◌+◌, ◌^◌, ◌<◌, ◌≤◌, IsTrue, ℕ, List, Some, drop, length};
+ghost use Rattle.std.specs.Prelude.{◌≡◌, ◌↔◌, ◌+◌, ◌^◌, ◌<◌, ◌≤◌, IsTrue, ℕ, List, None, Some, drop, length};
 ghost use Rattle.std.specs.List.{concat};
 ghost use Rattle.operator_text.specs.Page.{AreLines, PageRecord, fitting, new_part, page_for, page_of, page_text, part_text, pushed_all};
 ghost use Rattle.operator_text.specs.Pages.{are_whole, joined, pages_of};
 ghost use Rattle.operator_text.specs.Reading.{page_at};
+ghost use Rattle.operator_text.specs.Reply.{reply_at, reply_text};
 ghost use Rattle.operator_text.specs.Request.{IsWish, Wish, request_at, request_text};
+ghost use Rattle.operator_text.specs.declared.reply.Reply.{Reply};
 
 /// One spelling: the reader accepts exactly the texts that the writer writes, and reads each as what was written.
 ///
@@ -12,6 +14,12 @@ pub fn requests_have_one_spelling()
     ensures reading { (text : List ℕ) (wish : Wish)
         → (request_at text ≡ Some wish) ↔ (IsWish wish × (text ≡ request_text wish)) }
     ensures len { (wish : Wish) → IsWish wish → length (request_text wish) ≤ 71 }
+{}
+
+/// Replies: the reader of replies accepts exactly the texts that the writer writes, and none of them is a page.
+pub fn replies_are_no_pages()
+    ensures reading { (text : List ℕ) (reply : Reply) → (reply_at text ≡ Some reply) ↔ (text ≡ reply_text reply) }
+    ensures pages { (reply : Reply) → page_at (reply_text reply) ≡ None }
 {}
 
 /// Pages: pushes of lines make their page. It has at most 1,024 bytes, and is read as it was made.

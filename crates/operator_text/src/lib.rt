@@ -9,6 +9,7 @@ mod laws;
 mod number;
 mod page;
 mod reading;
+mod reply;
 mod request;
 mod status;
 mod status_laws;
@@ -17,9 +18,12 @@ mod status_line;
 mod tests;
 mod worked;
 
-pub use laws::{pages_are_read, pages_are_the_report, requests_have_one_spelling};
+pub use laws::{
+    pages_are_read, pages_are_the_report, replies_are_no_pages, requests_have_one_spelling,
+};
 pub use page::{MAX_LINE_LEN, MAX_PAGE_LEN, Page};
 pub use reading::read_page;
+pub use reply::{Reply, read_reply, write_reply};
 pub use request::{MAX_REQUEST_LEN, Report, Request, read_request, write_request};
 pub use status::{MAX_STATUS_LINES, Other, Refused, Status, Version};
 pub use status_laws::{

@@ -10,4 +10,4 @@ mod store;
 mod tests;
 
 pub use laws::{seats_are_worked, seats_can_be_broken};
-pub use store::SeatedStore;
+pub use store::{BelowReading, SeatedStore};

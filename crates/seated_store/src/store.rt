@@ -8,6 +8,20 @@ ghost use Rattle.seated_store.specs.Seats.{AreSeats, pass_below as spec_pass_bel
 use floor_store::{FloorStore, Pass, Row, StoreFault};
 use std::marker::Model;
 
+/// What is read of a store below another one.
+pub trait BelowReading<S: FloorStore> {
+    ghost use Rattle.std.specs.Prelude.{IfErr};
+    ghost use Rattle.floor_store.specs.Held.{Breaks, Puts};
+
+    /// Reads something of the store, which keeps its content.
+    ///
+    /// # Errors
+    /// Returns the fault that broke the store, before the call or in it.
+    fn read(&mut self, store: &mut S) -> Result<(), StoreFault>
+        ensures keeps { Puts S.held store.old store.new (S.held store.old).content result }
+        ensures breaks { IfErr result (Breaks S.held store.old store.new) };
+}
+
 /// A store whose row `i` is the row `seats[i]` of the store below. No two seats are the same row.
 ///
 /// A pass of a token without a seat can't be kept. A put of one breaks the store.
@@ -58,6 +72,34 @@ impl<S: FloorStore> SeatedStore<S> {
             is_unusable: _,
         } = self;
         inner
+    }
+
+    /// Returns the store below for reading.
+    pub fn inner(&self) -> &S
+        ensures { result.now ≡ self.now.inner }
+    {
+        &self.inner
+    }
+
+    /// Returns the row of each token in the store below.
+    pub fn seats(&self) -> &[u32]
+        ensures { result.now ≡ self.now.seats }
+    {
+        &self.seats
+    }
+
+    /// Reads something of the store below, which keeps its content.
+    ///
+    /// # Errors
+    /// Returns the fault that broke the store, before the call or in it.
+    pub fn read_below<R: BelowReading<S>>(&mut self, reading: &mut R) -> Result<(), StoreFault>
+        ensures keeps { Puts (seated_held S.held) self.old self.new (seated_held S.held self.old).content result }
+        ensures breaks { IfErr result (Breaks (seated_held S.held) self.old self.new) }
+    {
+        if self.is_unusable {
+            return Err(StoreFault::Unusable);
+        }
+        reading.read(&mut self.inner)
     }
 
     /// Returns the pass with its token's seat, or None if the token has no seat.

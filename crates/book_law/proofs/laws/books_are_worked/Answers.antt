@@ -212,6 +212,46 @@ pub returns-clause-enrols_unknown : goal.returns-clause-enrols_unknown
 unfolding code_at first_words schedule rounds compress hash_after digest_bytes sha1 state_after state_after_action results_after results_after_action made_by_event made_while_running made_by_datagram made_by_ruling made_by_proposal propose propose_alone propose_among on_ask accept count_grant on_grant raise count_deny on_deny on_floor on_message tick
 returns-clause-enrols_unknown c = refl
 
+pub returns-clause-opens_gate : goal.returns-clause-opens_gate
+unfolding code_at first_words schedule rounds compress hash_after digest_bytes sha1 state_after state_after_action results_after results_after_action made_by_event made_while_running made_by_datagram made_by_ruling made_by_proposal propose propose_alone propose_among on_ask accept count_grant on_grant raise count_deny on_deny on_floor on_message tick
+returns-clause-opens_gate c = refl
+
+pub returns-clause-opens_gate_as_a_command_does : goal.returns-clause-opens_gate_as_a_command_does
+unfolding code_at first_words schedule rounds compress hash_after digest_bytes sha1 state_after state_after_action results_after results_after_action made_by_event made_while_running made_by_datagram made_by_ruling made_by_proposal propose propose_alone propose_among on_ask accept count_grant on_grant raise count_deny on_deny on_floor on_message tick
+returns-clause-opens_gate_as_a_command_does c = refl
+
+pub returns-clause-opens_an_open_gate : goal.returns-clause-opens_an_open_gate
+unfolding code_at first_words schedule rounds compress hash_after digest_bytes sha1 state_after state_after_action results_after results_after_action made_by_event made_while_running made_by_datagram made_by_ruling made_by_proposal propose propose_alone propose_among on_ask accept count_grant on_grant raise count_deny on_deny on_floor on_message tick
+returns-clause-opens_an_open_gate c = refl
+
+pub returns-clause-opens_gate_of_another : goal.returns-clause-opens_gate_of_another
+unfolding code_at first_words schedule rounds compress hash_after digest_bytes sha1 state_after state_after_action results_after results_after_action made_by_event made_while_running made_by_datagram made_by_ruling made_by_proposal propose propose_alone propose_among on_ask accept count_grant on_grant raise count_deny on_deny on_floor on_message tick
+returns-clause-opens_gate_of_another c = refl
+
+pub returns-clause-opens_gate_and_takes : goal.returns-clause-opens_gate_and_takes
+unfolding code_at first_words schedule rounds compress hash_after digest_bytes sha1 state_after state_after_action results_after results_after_action made_by_event made_while_running made_by_datagram made_by_ruling made_by_proposal propose propose_alone propose_among on_ask accept count_grant on_grant raise count_deny on_deny on_floor on_message tick
+returns-clause-opens_gate_and_takes c = refl
+
+pub returns-clause-opens_gate_and_offers : goal.returns-clause-opens_gate_and_offers
+unfolding code_at first_words schedule rounds compress hash_after digest_bytes sha1 state_after state_after_action results_after results_after_action made_by_event made_while_running made_by_datagram made_by_ruling made_by_proposal propose propose_alone propose_among on_ask accept count_grant on_grant raise count_deny on_deny on_floor on_message tick
+returns-clause-opens_gate_and_offers c = refl
+
+pub returns-clause-floor_after_opens_gate : goal.returns-clause-floor_after_opens_gate
+unfolding code_at first_words schedule rounds compress hash_after digest_bytes sha1 state_after state_after_action results_after results_after_action made_by_event made_while_running made_by_datagram made_by_ruling made_by_proposal propose propose_alone propose_among on_ask accept count_grant on_grant raise count_deny on_deny on_floor on_message tick
+returns-clause-floor_after_opens_gate c = refl
+
+pub returns-clause-opens_gate_without_a_seat : goal.returns-clause-opens_gate_without_a_seat
+unfolding code_at first_words schedule rounds compress hash_after digest_bytes sha1 state_after state_after_action results_after results_after_action made_by_event made_while_running made_by_datagram made_by_ruling made_by_proposal propose propose_alone propose_among on_ask accept count_grant on_grant raise count_deny on_deny on_floor on_message tick
+returns-clause-opens_gate_without_a_seat c = refl
+
+pub returns-clause-opens_gate_without_a_process : goal.returns-clause-opens_gate_without_a_process
+unfolding code_at first_words schedule rounds compress hash_after digest_bytes sha1 state_after state_after_action results_after results_after_action made_by_event made_while_running made_by_datagram made_by_ruling made_by_proposal propose propose_alone propose_among on_ask accept count_grant on_grant raise count_deny on_deny on_floor on_message tick
+returns-clause-opens_gate_without_a_process c = refl
+
+pub returns-clause-opens_no_gate_of_a_stopped_machine : goal.returns-clause-opens_no_gate_of_a_stopped_machine
+unfolding code_at first_words schedule rounds compress hash_after digest_bytes sha1 state_after state_after_action results_after results_after_action made_by_event made_while_running made_by_datagram made_by_ruling made_by_proposal propose propose_alone propose_among on_ask accept count_grant on_grant raise count_deny on_deny on_floor on_message tick
+returns-clause-opens_no_gate_of_a_stopped_machine c = refl
+
 pub returns-clause-lost : goal.returns-clause-lost
 unfolding code_at first_words schedule rounds compress hash_after digest_bytes sha1 state_after state_after_action results_after results_after_action made_by_event made_while_running made_by_datagram made_by_ruling made_by_proposal propose propose_alone propose_among on_ask accept count_grant on_grant raise count_deny on_deny on_floor on_message tick
 returns-clause-lost c = refl
@@ -303,6 +343,22 @@ returns-clause-unlocking_without_a_row c = refl
 pub returns-clause-unlocking_of_a_served_store : goal.returns-clause-unlocking_of_a_served_store
 unfolding code_at first_words schedule rounds compress hash_after digest_bytes sha1 state_after state_after_action results_after results_after_action made_by_event made_while_running made_by_datagram made_by_ruling made_by_proposal propose propose_alone propose_among on_ask accept count_grant on_grant raise count_deny on_deny on_floor on_message tick
 returns-clause-unlocking_of_a_served_store c = refl
+
+pub returns-clause-unlocking_of_a_process : goal.returns-clause-unlocking_of_a_process
+unfolding code_at first_words schedule rounds compress hash_after digest_bytes sha1 state_after state_after_action results_after results_after_action made_by_event made_while_running made_by_datagram made_by_ruling made_by_proposal propose propose_alone propose_among on_ask accept count_grant on_grant raise count_deny on_deny on_floor on_message tick
+returns-clause-unlocking_of_a_process c = refl
+
+pub returns-clause-unlocking_of_another_at_a_process : goal.returns-clause-unlocking_of_another_at_a_process
+unfolding code_at first_words schedule rounds compress hash_after digest_bytes sha1 state_after state_after_action results_after results_after_action made_by_event made_while_running made_by_datagram made_by_ruling made_by_proposal propose propose_alone propose_among on_ask accept count_grant on_grant raise count_deny on_deny on_floor on_message tick
+returns-clause-unlocking_of_another_at_a_process c = refl
+
+pub returns-clause-unlocking_without_a_seat : goal.returns-clause-unlocking_without_a_seat
+unfolding code_at first_words schedule rounds compress hash_after digest_bytes sha1 state_after state_after_action results_after results_after_action made_by_event made_while_running made_by_datagram made_by_ruling made_by_proposal propose propose_alone propose_among on_ask accept count_grant on_grant raise count_deny on_deny on_floor on_message tick
+returns-clause-unlocking_without_a_seat c = refl
+
+pub returns-clause-unlocking_without_a_process : goal.returns-clause-unlocking_without_a_process
+unfolding code_at first_words schedule rounds compress hash_after digest_bytes sha1 state_after state_after_action results_after results_after_action made_by_event made_while_running made_by_datagram made_by_ruling made_by_proposal propose propose_alone propose_among on_ask accept count_grant on_grant raise count_deny on_deny on_floor on_message tick
+returns-clause-unlocking_without_a_process c = refl
 
 pub returns-clause-results_of_a_lost_store : goal.returns-clause-results_of_a_lost_store
 unfolding code_at first_words schedule rounds compress hash_after digest_bytes sha1 state_after state_after_action results_after results_after_action made_by_event made_while_running made_by_datagram made_by_ruling made_by_proposal propose propose_alone propose_among on_ask accept count_grant on_grant raise count_deny on_deny on_floor on_message tick

@@ -15,6 +15,9 @@ returns-clause-row_elsewhere c h = let node : 2 ≡ 1 = h.0 in omega (arith, nod
 pub returns-clause-unlocked_elsewhere : goal.returns-clause-unlocked_elsewhere
 returns-clause-unlocked_elsewhere c h = let node : 2 ≡ 1 = h.0 in omega (arith, node)
 
+pub returns-clause-opened_gate_is_a_use : goal.returns-clause-opened_gate_is_a_use
+returns-clause-opened_gate_is_a_use c h = h.0
+
 pub returns-clause-raised_elsewhere : goal.returns-clause-raised_elsewhere
 returns-clause-raised_elsewhere c h = let node : 2 ≡ 1 = h.0 in omega (arith, node)
 
@@ -70,6 +73,9 @@ returns-clause-recorded_unoffered c h =
 
 pub returns-clause-stop_serves : goal.returns-clause-stop_serves
 returns-clause-stop_serves c h = h.0 refl
+
+pub returns-clause-opened_gate_serves : goal.returns-clause-opened_gate_serves
+returns-clause-opened_gate_serves c h = h.1.0 refl
 
 pub returns-clause-second_opening_serves : goal.returns-clause-second_opening_serves
 returns-clause-second_opening_serves c h = h.1.0 refl

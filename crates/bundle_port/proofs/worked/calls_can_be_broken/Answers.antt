@@ -1,7 +1,8 @@
--- A record that is short, another bundler, a wait that is not counted, and a quiet poll.
+-- A record that is short, another bundler, a wait that is not counted, a quiet poll, and a flush that offers nothing.
 use Rattle.std.proofs.Common.{◌≡◌, ℕ, List, [], ◌∷◌, get_or, length, refl, ap, true≢false, sym, arith}
 use Rattle.std.specs.Prelude.{Some}
-use Rattle.datagram_port.specs.Port.{Faulted, PortEvent}
+use Rattle.datagram_port.specs.Port.{Faulted, Offered, PortEvent}
+use Rattle.datagram_port.specs.declared.port.Sender.TheVariants.{Peer}
 use Rattle.bundle_port.specs.Bundler.{BundlerRecord, new_lane, waiting_for}
 use Rattle.bundle_port.specs.Examples.{first, from_1}
 use Rattle.bundle_port.proofs.worked.calls_can_be_broken.Goals as goal
@@ -37,3 +38,16 @@ returns-clause-uncounted_wait c = λ h. (let e : 0 ≡ 1 = ap calm_of h.bundler_
 
 pub returns-clause-quiet_poll : goal.returns-clause-quiet_poll
 returns-clause-quiet_poll c = λ h. true≢false (sym h.is_made)
+
+pub returns-clause-flushed : goal.returns-clause-flushed
+returns-clause-flushed c = record {
+  is_made = refl;
+  bundler_is = refl;
+  below_is = λ events e. sym (some_is (Offered (Peer 2) first ∷ []) events e);
+}
+
+pub returns-clause-kept_at_flush : goal.returns-clause-kept_at_flush
+returns-clause-kept_at_flush c = λ h. (let e = h.below_is [] refl in absurd cc)
+
+pub returns-clause-waits_after_flush : goal.returns-clause-waits_after_flush
+returns-clause-waits_after_flush c = λ h. (let e = ap (λ (b : BundlerRecord). length (waiting_for b 2)) h.bundler_is in absurd (omega (arith, e)))

@@ -9,7 +9,7 @@ use Rattle.oath_node.specs.declared.serve_fault.ServeFault.{ServeFault}
 use Rattle.oath_node.specs.declared.turns.Served.{Served}
 use Rattle.oath_node.specs.declared.turns.Tally.{Tally}
 use Rattle.oath_node.proofs.GrowLemmas.{err_is}
-use Rattle.oath_node.proofs.TurnLemmas.{IsSoFar, ends_by_clock, serves_less, serves_until_end, serves_until_fault, so_far_few, so_far_next, so_far_start, zero_tally}
+use Rattle.oath_node.proofs.TurnLemmas.{IsSoFar, ends_by_clock, serves_less, serves_until_end, serves_until_fault, so_far_asked, so_far_few, so_far_next, so_far_start, zero_tally}
 use Rattle.oath_node.proofs.turns.run_turns_until.Goals as goal
 
 pub loop-left-init : goal.loop-left-init
@@ -62,26 +62,32 @@ returns-in_err-left-clause-clock g c =
     h.2 c.in_err-left.ensures.takes c.from_residual.result (err_is c.from_residual.result fault c.from_residual.ensures.1)
 
 -- the answer after a batch
-asked_at : (answers : ℕ → Bool → Bool → Type 0) (count left : ℕ) (waits is answer : Bool) (received : ℕ) (batch : List Receipt)
-    → IsBatch received batch → waits ≡ is → answers left waits answer → (0 < count + length batch) × answers left is answer
-asked_at answers count left waits is answer received batch b same h =
+asked_at : (answers : ℕ → Bool → Bool → Type 0) (count left : ℕ) (waits answer : Bool) (received : ℕ) (batch : List Receipt)
+    → IsBatch received batch → answers left waits answer → (0 < count + length batch) × answers left waits answer
+asked_at answers count left waits answer received batch b h =
     let some = ap (λ (xs : List Receipt). length xs) b.is ∙ one_more b.before b.last in
-    (omega (arith, some), subst (λ (w : Bool). answers left w answer) same h)
+    (omega (arith, some), h)
 
 pub loop-left-preserved : goal.loop-left-preserved
 loop-left-preserved g c =
     let h = c.loop-left.invariant in
     let b = c.in_ok-left.ensures.takes in
-    let taken = b.count in (
+    let taken = b.count in
+    let asked = c.if-ends.ensures in
+    let node = c.take_batch.new.node in
+    let tally = c.take_batch.new.tally in (
       h.0 + length b.batch,
       omega (arith, h.1, taken, b.most),
-      so_far_next ℕ g.S.FloorStore.held c.args.node.now (g.P.Port.events c.args.port.now) (g.C.Clock.moments c.args.clock.now) h.0
+      so_far_asked g.S.FloorStore.held c.args.node.now (g.P.Port.events c.args.port.now) (g.C.Clock.moments c.args.clock.now)
+          (h.0 + length b.batch) node tally (g.P.Port.events c.take_batch.new.port) (g.P.Port.events c.ends.new.port)
+          (g.C.Clock.moments c.take_batch.new.clock) asked.events
+          (so_far_next ℕ g.S.FloorStore.held c.args.node.now (g.P.Port.events c.args.port.now) (g.C.Clock.moments c.args.clock.now) h.0
           (scene g.P.Port.events c.loop-left.node c.loop-left.port c.loop-left.tally)
-          (scene g.P.Port.events c.take_batch.new.node c.take_batch.new.port c.take_batch.new.tally) b.batch (g.C.Clock.moments c.loop-left.clock)
-          (g.C.Clock.moments c.take_batch.new.clock) c.in_ok-left.field-0 h.2 b.is_batch b.steps,
-      c.take_batch.ensures.stays ∙ h.3,
-      inr (asked_at (g.U.Until.answers c.ends.new.self) h.0 (c.loop-left.left - c.in_ok-left.field-0) c.is_waiting.result
-          (is_waiting c.take_batch.new.node) false _ b.batch b.is_batch c.is_waiting.ensures c.if-ends.ensures),
+          (scene g.P.Port.events node c.take_batch.new.port tally) b.batch (g.C.Clock.moments c.loop-left.clock)
+          (g.C.Clock.moments c.take_batch.new.clock) c.in_ok-left.field-0 h.2 b.is_batch b.steps),
+      asked.stays ∙ c.take_batch.ensures.stays ∙ h.3,
+      inr (asked_at (g.U.Until.answers c.ends.new.self) h.0 (c.loop-left.left - c.in_ok-left.field-0) (is_waiting node) false c.loop-left.tally.received
+          b.batch b.is_batch asked.answers),
     )
 
 pub returns-then-ends-clause-serves : goal.returns-then-ends-clause-serves
@@ -89,7 +95,10 @@ returns-then-ends-clause-serves g c =
     let held = g.S.FloorStore.held in
     let first = g.P.Port.events c.args.port.now in
     let asked = g.C.Clock.moments c.args.clock.now in
-    let now = scene g.P.Port.events c.take_batch.new.node c.take_batch.new.port c.take_batch.new.tally in
+    let node = c.take_batch.new.node in
+    let tally = c.take_batch.new.tally in
+    let before = scene g.P.Port.events node c.take_batch.new.port tally in
+    let now = scene g.P.Port.events node c.ends.new.port tally in
     let told = g.C.Clock.moments c.take_batch.new.clock in
     let answers = g.U.Until.answers c.ends.new.self in
     let h = c.loop-left.invariant in
@@ -98,12 +107,12 @@ returns-then-ends-clause-serves g c =
     let left = c.loop-left.left - c.in_ok-left.field-0 in
     let count = h.0 + length b.batch in
     let sum : count + left ≡ c.args.turns = omega (arith, h.1, taken, b.most) in
-    let so_far = so_far_next ℕ held c.args.node.now first asked h.0
-    (scene g.P.Port.events c.loop-left.node c.loop-left.port c.loop-left.tally) now b.batch (g.C.Clock.moments c.loop-left.clock)
-    told c.in_ok-left.field-0 h.2 b.is_batch b.steps in
-    let last = asked_at answers h.0 left c.is_waiting.result (is_waiting c.take_batch.new.node) true _ b.batch b.is_batch
-    c.is_waiting.ensures c.if-ends.ensures in
-    subst (λ (served : Served). ServesUntil held c.args.node.now c.take_batch.new.node first now.entries asked told c.args.turns answers (Ok served))
+    let so_far = so_far_asked held c.args.node.now first asked count node tally before.entries now.entries told c.if-ends.ensures.events
+    (so_far_next ℕ held c.args.node.now first asked h.0
+    (scene g.P.Port.events c.loop-left.node c.loop-left.port c.loop-left.tally) before b.batch (g.C.Clock.moments c.loop-left.clock)
+    told c.in_ok-left.field-0 h.2 b.is_batch b.steps) in
+    let last = asked_at answers h.0 left (is_waiting node) true c.loop-left.tally.received b.batch b.is_batch c.if-ends.ensures.answers in
+    subst (λ (served : Served). ServesUntil held c.args.node.now node first now.entries asked told c.args.turns answers (Ok served))
     (sym c.counts_of.ensures)
     (serves_until_end held c.args.node.now first asked count left c.args.turns now told answers true c.requires.few sum so_far (inr last)
     (λ early. absurd cc))

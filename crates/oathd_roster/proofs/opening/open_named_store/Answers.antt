@@ -1,5 +1,6 @@
 use Rattle.std.proofs.Common.{◌≡◌, ◌∙◌, IfSome, rules, subst, sym}
 use Rattle.std.proofs.lemmas.List.{length-map}
+use Rattle.named_store.specs.Seating.{AreDistinct}
 use Rattle.oathd_database.specs.declared.fault.Fault.TheVariants.{Store}
 use Rattle.oathd_roster.specs.Opened.{IsNotOpened}
 use Rattle.oathd_roster.specs.declared.fault.RosterFault.{RosterFault}
@@ -46,6 +47,7 @@ returns-clause-opened g c =
     let counts = c.in-Ok-enrol_and_count.opened.1 in
     let drifted = c.deref-2.ensures.value ∙ c.in-Ok.ensures.floors in
     let same : c.tokens.result ≡ c.len-tokens.result = search rules in
+    let apart = subst AreDistinct c.in_ok-named.ensures.entries c.in_ok-named.named.distinct in
     let each = sym (c.tokens.ensures.value ∙ length-map store.seats _) ∙ same ∙ c.len-tokens.ensures.value in
     opened_named g.S.Store g.D.Database.finds c.args.cluster.now c.args.settings c.args.moment c.args.node users.book users.floors.items c.deref.result.now c.deref-2.result.now
-    c.in_ok-conn.conn store counts (c.deref.ensures.value ∙ c.in_ok-named.ensures.entries) drifted c.in_ok-conn.ensures.found c.in-Ok-enrol_and_count.ensures.opened c.in-Ok-enrol_and_count.ensures.counts each
+    c.in_ok-conn.conn store counts (c.deref.ensures.value ∙ c.in_ok-named.ensures.entries) drifted c.in_ok-conn.ensures.found c.in-Ok-enrol_and_count.ensures.opened c.in-Ok-enrol_and_count.ensures.counts each apart

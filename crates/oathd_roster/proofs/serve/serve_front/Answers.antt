@@ -14,6 +14,7 @@ some_setup setup = Some setup
 pub returns-in-Gate-clause-turns : goal.returns-in-Gate-clause-turns
 returns-in-Gate-clause-turns g c =
     let held = g.S.FloorStore.held in
+    let acts = g.U.Attend.acts in
     let old = c.args.node.now in
     let new = c.serve_named-in-Gate.new.node in
     let members = c.args.port.members.items in
@@ -25,7 +26,7 @@ returns-in-Gate-clause-turns g c =
     let port = c.new-port.result in
     let parts = c.new-port.ensures.parts in
     let result = c.serve_named-in-Gate.result in
-    let answers = g.U.Until.answers c.serve_named-in-Gate.new.until in
+    let answers = g.U.Attend.answers c.serve_named-in-Gate.new.until.attendant in
     elim c.serve_named-in-Gate.ensures.turns [
       | inl memory ↦ inl memory
       | inr run ↦
@@ -34,8 +35,8 @@ returns-in-Gate-clause-turns g c =
           (ap (λ p. p.skips_answers) parts.0 ∙ below.skips ∙ c.requires.plain.0)
           (ap (λ p. p.takes_loopback_alone) parts.0 ∙ below.hosts ∙ c.requires.plain.1)
           (ap (λ p. p.members.items) parts.0 ∙ ap (λ m. m.items) below.members) in
-          inr (subst (λ (front : Front). IsServedNamed held old new (setup_behind members front) start packer c.args.turns answers result) (sym c.in-Gate.is)
-          (served_sealed held old new c.args.turns answers result run.0 start packer last.port.skips_answers last.port.takes_loopback_alone
+          inr (subst (λ (front : Front). IsServedNamed held acts old new (setup_behind members front) start packer c.args.turns answers result) (sym c.in-Gate.is)
+          (served_sealed held acts old new c.args.turns answers result run.0 start packer last.port.skips_answers last.port.takes_loopback_alone
           last.port.members.items last.port.calls.made (setup_behind members (Gate gate)) run.4 last.gate last.calls.events run.2 last.heard
           (run.3 ∙ ap some_setup made)))
     ]

@@ -6,7 +6,7 @@ use Rattle.oathd_roster.specs.Opened.{HasOpenedNamed}
 use Rattle.oathd_roster.specs.Served.{EndsServingNamed}
 use Rattle.oathd_roster.specs.declared.fault.RosterFault.{RosterFault}
 use Rattle.oathd_roster.specs.declared.fault.RosterFault.TheVariants.{Command}
-use Rattle.oathd_roster.proofs.ServedLemmas.{ends_front, ends_memory, ends_opening, ends_early, ends_served, ends_socket, has_served, not_early, packer_is, served_over, start_is}
+use Rattle.oathd_roster.proofs.ServedLemmas.{ends_front, ends_memory, ends_opening, ends_early, ends_served, ends_socket, has_served, packer_is, served_over, start_is}
 use Rattle.oathd_roster.proofs.UsersLemmas.{err_is, name_in, names_are}
 use Rattle.oathd_roster.proofs.serve.serve_named_store.Goals as goal
 
@@ -23,13 +23,14 @@ returns-clause-served g c =
     let key = c.in_ok-key.ensures.key in
     let names = c.in_ok-names.ensures.names ∙ ap (map name_in) c.in_ok-named.ensures.entries ∙ names_are cluster.salt users.book in
     let members = ap (λ (all : Vec SocketAddrV4). all.items) c.new-port.ensures.members in
-    has_served g.S.Store g.D.Database.finds cluster c.args.moment serving (g.U.Until.answers c.serve_front.new.until) (g.R.Read.remaining c.args.users) users.book users.floors.items
-    c.in_ok-named.ensures.users found counts c.in_ok-node.node c.serve_front.new.node boot c.in_ok-floors.floors.items opened c.in_ok-node.ensures.opened c.in_ok-node.ensures.book
+    let answers = g.U.Stop.answers c.in_ok-served.served.1 in
+    has_served g.S.Store g.D.Database.finds cluster c.args.moment serving (g.R.Read.remaining c.args.users) users.book users.floors.items
+    c.in_ok-named.ensures.users found counts c.in_ok-node.node c.serve_desk.new.node boot c.in_ok-floors.floors.items opened c.in_ok-node.ensures.opened c.in_ok-node.ensures.book
     c.in_ok-node.ensures.limits (c.in_ok-node.ensures.key ∙ c.bare-bare.ensures) c.in_ok-node.ensures.place
     (λ clean. ap (λ (start : Start). start.boot) c.start_of-start.ensures ∙ ap (λ (b : ℕ). b + 1) (c.in_ok-boot.ensures.reads.ok clean))
-    c.in_ok-floors.ensures.floors c.in_ok-served.served
+    c.in_ok-floors.ensures.floors answers c.in_ok-served.served.0
     (served_over serving.lines c.in_ok-front.front _ _ members c.in_ok-front.ensures.front c.me.ensures.value (start_is _ _ _ _ _ _ boot key names me)
-    (packer_is _ _ _ _ _ _ boot _ _ _ key names me c.n.ensures.value) (not_early c.in_ok-served.served c.in_ok-served.ensures.turns))
+    (packer_is _ _ _ _ _ _ boot _ _ _ key names me c.n.ensures.value) c.in_ok-served.ensures.served)
 
 pub returns-in_err-served-clause-fault : goal.returns-in_err-served-clause-fault
 returns-in_err-served-clause-fault g c =
@@ -46,12 +47,12 @@ returns-in_err-served-clause-fault g c =
     let members = ap (λ (all : Vec SocketAddrV4). all.items) c.new-port.ensures.members in
     let fault = c.in_err-served.field-0.0 in
     err_is c.from_residual-in_err-served.result (Command fault)
-    (λ (x : RosterFault). IfSome (g.R.Read.remaining c.args.users) (EndsServingNamed g.S.Store g.D.Database.finds cluster c.args.moment serving (g.U.Until.answers c.serve_front.new.until) x))
+    (λ (x : RosterFault). IfSome (g.R.Read.remaining c.args.users) (EndsServingNamed g.S.Store g.D.Database.finds cluster c.args.moment serving x))
     c.from_residual-in_err-served.ensures.1
-    (ends_early g.S.Store g.D.Database.finds cluster c.args.moment serving (g.U.Until.answers c.serve_front.new.until) (g.R.Read.remaining c.args.users) users.book users.floors.items
-    c.in_ok-named.ensures.users fault c.in_err-served.ensures.turns
-    (λ served. ends_served g.S.Store g.D.Database.finds cluster c.args.moment serving (g.U.Until.answers c.serve_front.new.until) (g.R.Read.remaining c.args.users) users.book users.floors.items
-    c.in_ok-named.ensures.users found counts c.in_ok-node.node c.serve_front.new.node boot c.in_ok-floors.floors.items opened c.in_ok-node.ensures.opened c.in_ok-node.ensures.book
+    (ends_early g.S.Store g.D.Database.finds cluster c.args.moment serving (g.R.Read.remaining c.args.users) users.book users.floors.items
+    c.in_ok-named.ensures.users fault c.in_err-served.ensures.fault
+    (λ served. ends_served g.S.Store g.D.Database.finds cluster c.args.moment serving (g.R.Read.remaining c.args.users) users.book users.floors.items
+    c.in_ok-named.ensures.users found counts c.in_ok-node.node c.serve_desk.new.node boot c.in_ok-floors.floors.items opened c.in_ok-node.ensures.opened c.in_ok-node.ensures.book
     c.in_ok-node.ensures.limits (c.in_ok-node.ensures.key ∙ c.bare-bare.ensures) c.in_ok-node.ensures.place
     (λ clean. ap (λ (start : Start). start.boot) c.start_of-start.ensures ∙ ap (λ (b : ℕ). b + 1) (c.in_ok-boot.ensures.reads.ok clean))
     c.in_ok-floors.ensures.floors fault
@@ -65,9 +66,9 @@ returns-in_err-key-clause-fault g c =
     let users = c.in_ok-named.named.users in
     let fault = c.in_err-key.field-0.0 in
     err_is c.from_residual-in_err-key.result (Command fault)
-    (λ (x : RosterFault). IfSome a (EndsServingNamed g.S.Store g.D.Database.finds cluster c.args.moment c.args.serving (g.U.Until.answers c.args.until.now) x))
+    (λ (x : RosterFault). IfSome a (EndsServingNamed g.S.Store g.D.Database.finds cluster c.args.moment c.args.serving x))
     c.from_residual-in_err-key.ensures.1
-    (ends_memory g.S.Store g.D.Database.finds cluster c.args.moment c.args.serving (g.U.Until.answers c.args.until.now) a users.book users.floors.items c.in_ok-named.ensures.users fault c.in_err-key.ensures.fault)
+    (ends_memory g.S.Store g.D.Database.finds cluster c.args.moment c.args.serving a users.book users.floors.items c.in_ok-named.ensures.users fault c.in_err-key.ensures.fault)
 
 pub returns-in_err-names-clause-fault : goal.returns-in_err-names-clause-fault
 returns-in_err-names-clause-fault g c =
@@ -76,9 +77,9 @@ returns-in_err-names-clause-fault g c =
     let users = c.in_ok-named.named.users in
     let fault = c.in_err-names.field-0.0 in
     err_is c.from_residual-in_err-names.result (Command fault)
-    (λ (x : RosterFault). IfSome a (EndsServingNamed g.S.Store g.D.Database.finds cluster c.args.moment c.args.serving (g.U.Until.answers c.args.until.now) x))
+    (λ (x : RosterFault). IfSome a (EndsServingNamed g.S.Store g.D.Database.finds cluster c.args.moment c.args.serving x))
     c.from_residual-in_err-names.ensures.1
-    (ends_memory g.S.Store g.D.Database.finds cluster c.args.moment c.args.serving (g.U.Until.answers c.args.until.now) a users.book users.floors.items c.in_ok-named.ensures.users fault c.in_err-names.ensures.fault)
+    (ends_memory g.S.Store g.D.Database.finds cluster c.args.moment c.args.serving a users.book users.floors.items c.in_ok-named.ensures.users fault c.in_err-names.ensures.fault)
 
 pub returns-in_err-roster-clause-fault : goal.returns-in_err-roster-clause-fault
 returns-in_err-roster-clause-fault g c =
@@ -87,9 +88,9 @@ returns-in_err-roster-clause-fault g c =
     let users = c.in_ok-named.named.users in
     let fault = c.in_err-roster.field-0.0 in
     err_is c.from_residual-in_err-roster.result (Command fault)
-    (λ (x : RosterFault). IfSome a (EndsServingNamed g.S.Store g.D.Database.finds cluster c.args.moment c.args.serving (g.U.Until.answers c.args.until.now) x))
+    (λ (x : RosterFault). IfSome a (EndsServingNamed g.S.Store g.D.Database.finds cluster c.args.moment c.args.serving x))
     c.from_residual-in_err-roster.ensures.1
-    (ends_memory g.S.Store g.D.Database.finds cluster c.args.moment c.args.serving (g.U.Until.answers c.args.until.now) a users.book users.floors.items c.in_ok-named.ensures.users fault c.in_err-roster.ensures.fault)
+    (ends_memory g.S.Store g.D.Database.finds cluster c.args.moment c.args.serving a users.book users.floors.items c.in_ok-named.ensures.users fault c.in_err-roster.ensures.fault)
 
 pub returns-in_err-node-clause-fault : goal.returns-in_err-node-clause-fault
 returns-in_err-node-clause-fault g c =
@@ -98,9 +99,9 @@ returns-in_err-node-clause-fault g c =
     let users = c.in_ok-named.named.users in
     let fault = c.in_err-node.field-0.0 in
     err_is c.from_residual-in_err-node.result (Command fault)
-    (λ (x : RosterFault). IfSome a (EndsServingNamed g.S.Store g.D.Database.finds cluster c.args.moment c.args.serving (g.U.Until.answers c.args.until.now) x))
+    (λ (x : RosterFault). IfSome a (EndsServingNamed g.S.Store g.D.Database.finds cluster c.args.moment c.args.serving x))
     c.from_residual-in_err-node.ensures.1
-    (ends_opening g.S.Store g.D.Database.finds cluster c.args.moment c.args.serving (g.U.Until.answers c.args.until.now) a users.book users.floors.items c.in_ok-named.ensures.users fault c.in_err-node.ensures.fault)
+    (ends_opening g.S.Store g.D.Database.finds cluster c.args.moment c.args.serving a users.book users.floors.items c.in_ok-named.ensures.users fault c.in_err-node.ensures.fault)
 
 pub returns-in_err-handle-clause-fault : goal.returns-in_err-handle-clause-fault
 returns-in_err-handle-clause-fault g c =
@@ -109,9 +110,9 @@ returns-in_err-handle-clause-fault g c =
     let users = c.in_ok-named.named.users in
     let fault = c.in_err-handle.field-0.0 in
     err_is c.from_residual-in_err-handle.result (Command fault)
-    (λ (x : RosterFault). IfSome a (EndsServingNamed g.S.Store g.D.Database.finds cluster c.args.moment c.args.serving (g.U.Until.answers c.args.until.now) x))
+    (λ (x : RosterFault). IfSome a (EndsServingNamed g.S.Store g.D.Database.finds cluster c.args.moment c.args.serving x))
     c.from_residual-in_err-handle.ensures.1
-    (ends_socket g.S.Store g.D.Database.finds cluster c.args.moment c.args.serving (g.U.Until.answers c.args.until.now) a users.book users.floors.items c.in_ok-named.ensures.users fault c.in_err-handle.ensures)
+    (ends_socket g.S.Store g.D.Database.finds cluster c.args.moment c.args.serving a users.book users.floors.items c.in_ok-named.ensures.users fault c.in_err-handle.ensures)
 
 pub returns-in_err-front-clause-fault : goal.returns-in_err-front-clause-fault
 returns-in_err-front-clause-fault g c =
@@ -120,9 +121,9 @@ returns-in_err-front-clause-fault g c =
     let users = c.in_ok-named.named.users in
     let fault = c.in_err-front.field-0.0 in
     err_is c.from_residual-in_err-front.result (Command fault)
-    (λ (x : RosterFault). IfSome a (EndsServingNamed g.S.Store g.D.Database.finds cluster c.args.moment c.args.serving (g.U.Until.answers c.args.until.now) x))
+    (λ (x : RosterFault). IfSome a (EndsServingNamed g.S.Store g.D.Database.finds cluster c.args.moment c.args.serving x))
     c.from_residual-in_err-front.ensures.1
-    (ends_front g.S.Store g.D.Database.finds cluster c.args.moment c.args.serving (g.U.Until.answers c.args.until.now) a users.book users.floors.items c.in_ok-named.ensures.users fault c.in_err-front.ensures.fault)
+    (ends_front g.S.Store g.D.Database.finds cluster c.args.moment c.args.serving a users.book users.floors.items c.in_ok-named.ensures.users fault c.in_err-front.ensures.fault)
 
 pub returns-in_err-served-clause-unlogged : goal.returns-in_err-served-clause-unlogged
 returns-in_err-served-clause-unlogged g c = λ off. c.in_err-served.ensures.unlogged (c.log_of-log.ensures.none off)
@@ -137,6 +138,17 @@ returns-in_err-floors-clause-fault g c =
     let users = c.in_ok-named.named.users in
     let fault = c.in_err-floors.field-0.0 in
     err_is c.from_residual-in_err-floors.result (Command fault)
-    (λ (x : RosterFault). IfSome a (EndsServingNamed g.S.Store g.D.Database.finds cluster c.args.moment c.args.serving (g.U.Until.answers c.args.until.now) x))
+    (λ (x : RosterFault). IfSome a (EndsServingNamed g.S.Store g.D.Database.finds cluster c.args.moment c.args.serving x))
     c.from_residual-in_err-floors.ensures.1
-    (ends_opening g.S.Store g.D.Database.finds cluster c.args.moment c.args.serving (g.U.Until.answers c.args.until.now) a users.book users.floors.items c.in_ok-named.ensures.users fault c.in_err-floors.ensures.fault)
+    (ends_opening g.S.Store g.D.Database.finds cluster c.args.moment c.args.serving a users.book users.floors.items c.in_ok-named.ensures.users fault c.in_err-floors.ensures.fault)
+
+pub returns-in_err-standing-clause-fault : goal.returns-in_err-standing-clause-fault
+returns-in_err-standing-clause-fault g c =
+    let a = g.R.Read.remaining c.args.users in
+    let cluster = c.args.cluster.now in
+    let users = c.in_ok-named.named.users in
+    let fault = c.in_err-standing.field-0.0 in
+    err_is c.from_residual-in_err-standing.result (Command fault)
+    (λ (x : RosterFault). IfSome a (EndsServingNamed g.S.Store g.D.Database.finds cluster c.args.moment c.args.serving x))
+    c.from_residual-in_err-standing.ensures.1
+    (ends_memory g.S.Store g.D.Database.finds cluster c.args.moment c.args.serving a users.book users.floors.items c.in_ok-named.ensures.users fault c.in_err-standing.ensures.fault)

@@ -3,7 +3,7 @@ use Rattle.std.proofs.Common.{◌∙◌, List, ℕ, length, sym, arith}
 use Rattle.std.proofs.lemmas.Bool.{eqb-false, le-leb}
 use Rattle.datagram_port.specs.Port.{event_of_receive}
 use Rattle.bundle_port.specs.Runs.{Left, Polls}
-use Rattle.bundle_port.proofs.CallLemmas.{after_call, may_poll, noted_with, told_call}
+use Rattle.bundle_port.proofs.CallLemmas.{after_call, may_poll, noted_with, only_event, told_call}
 use Rattle.bundle_port.proofs.OfferLemmas.{grows_none}
 use Rattle.bundle_port.proofs.port.BundlePortPort.poll.Goals as goal
 
@@ -22,7 +22,7 @@ pub returns-then-not-is_none_left-clause-event : goal.returns-then-not-is_none_l
 returns-then-not-is_none_left-clause-event g c =
     let old = c.args.self.now in
     told_call (g.P.Port.events old.port) old.bundler old.calls.calls c.note_left.new.self.calls Left (event_of_receive c.hand_in.result c.hand_in.new.buffer)
-    old.after c.note_left.ensures c.hand_in.ensures.handed
+    old.after c.note_left.ensures (only_event c.hand_in.ensures.handed)
 
 pub invariant_of-self-2 : goal.invariant_of-self-2
 invariant_of-self-2 g c =
@@ -44,4 +44,4 @@ returns-clause-event g c =
     let event = event_of_receive received c.poll.new.buffer in
     let noted = noted_with (λ (b : List ℕ). Polls (event_of_receive received b)) old.calls.calls c.note_poll.new.self.calls c.as_slice.result.now c.poll.new.buffer c.note_poll.ensures c.as_slice.ensures in
     told_call (g.P.Port.events old.port) old.bundler old.calls.calls c.note_poll.new.self.calls (Polls event) (event_of_receive c.take.result c.take.new.buffer)
-    old.after noted c.take.ensures.handed
+    old.after noted (only_event c.take.ensures.handed)

@@ -3,7 +3,7 @@ use Rattle.std.proofs.Common.{◌∙◌, List, ℕ, length, sym, arith}
 use Rattle.std.proofs.lemmas.Bool.{eqb-false, le-leb}
 use Rattle.datagram_port.specs.Port.{event_of_receive}
 use Rattle.bundle_port.specs.Runs.{Left, Waits}
-use Rattle.bundle_port.proofs.CallLemmas.{after_call, after_waits, noted_with, told_call}
+use Rattle.bundle_port.proofs.CallLemmas.{after_call, after_waits, noted_with, only_event, told_call}
 use Rattle.bundle_port.proofs.OfferLemmas.{grows_none}
 use Rattle.bundle_port.proofs.port.BundlePortPort.receive.Goals as goal
 
@@ -22,7 +22,7 @@ pub returns-then-not-is_none_left-clause-event : goal.returns-then-not-is_none_l
 returns-then-not-is_none_left-clause-event g c =
     let old = c.args.self.now in
     told_call (g.P.Port.events old.port) old.bundler old.calls.calls c.note_left.new.self.calls Left (event_of_receive c.hand_in.result c.hand_in.new.buffer)
-    old.after c.note_left.ensures c.hand_in.ensures.handed
+    old.after c.note_left.ensures (only_event c.hand_in.ensures.handed)
 
 pub invariant_of-self-2 : goal.invariant_of-self-2
 invariant_of-self-2 g c =
@@ -32,8 +32,8 @@ invariant_of-self-2 g c =
     let noted = noted_with (λ (b : List ℕ). Waits (event_of_receive received b)) old.calls.calls c.note_wait.new.self.calls c.as_slice.result.now c.receive-received.new.buffer c.note_wait.ensures c.as_slice.ensures in
     let none = sym c.is_none_left.ensures ∙ c.if-not-is_none_left.false in
     record {
-      after = after_waits (g.P.Port.events old.port) (g.P.Port.events c.flush.new.port) (g.P.Port.events c.receive-received.new.self) old.bundler c.flush.new.bundler c.take.new.self
-          old.calls.calls c.note_wait.new.self.calls received buffer old.after none noted c.flush.ensures.after c.take.ensures.after c.flush.ensures.offers c.receive-received.ensures.event;
+      after = after_waits (g.P.Port.events old.port) (g.P.Port.events c.flush_lanes.new.port) (g.P.Port.events c.receive-received.new.self) old.bundler c.flush_lanes.new.bundler c.take.new.self
+          old.calls.calls c.note_wait.new.self.calls received buffer old.after none noted c.flush_lanes.ensures.after c.take.ensures.after c.flush_lanes.ensures.offers c.receive-received.ensures.event;
     }
 
 pub returns-clause-event : goal.returns-clause-event
@@ -43,4 +43,4 @@ returns-clause-event g c =
     let event = event_of_receive received c.receive-received.new.buffer in
     let noted = noted_with (λ (b : List ℕ). Waits (event_of_receive received b)) old.calls.calls c.note_wait.new.self.calls c.as_slice.result.now c.receive-received.new.buffer c.note_wait.ensures c.as_slice.ensures in
     told_call (g.P.Port.events old.port) old.bundler old.calls.calls c.note_wait.new.self.calls (Waits event) (event_of_receive c.take.result c.take.new.buffer)
-    old.after noted c.take.ensures.handed
+    old.after noted (only_event c.take.ensures.handed)

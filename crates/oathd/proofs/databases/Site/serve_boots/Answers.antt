@@ -1,6 +1,13 @@
-use Rattle.std.proofs.Common.{◌<◌, ◌∙◌, ◌++◌, ◌∷◌, [], arith}
+use Rattle.std.proofs.Common.{◌<◌, ◌∙◌, ◌++◌, ◌∷◌, [], refl, arith}
 use Rattle.oathd.proofs.ReloadLemmas.{boots_more, fewer_left}
 use Rattle.oathd.proofs.databases.Site.serve_boots.Goals as goal
+
+pub loop-boot-init : goal.loop-boot-init
+loop-boot-init g c = record {
+  few = omega (arith, c.in_ok-boot.ensures.boot.left_are, c.with_turns-first.ensures.turns, c.args.serving.few);
+  later = ([], refl);
+  unlogged = λ quiet. c.serve_boot.ensures.unlogged quiet;
+}
 
 pub loop-boot-smaller : goal.loop-boot-smaller
 loop-boot-smaller g c = fewer_left _ _ c.loop-boot-test.true c.in_ok-boot-2.ensures.fewer

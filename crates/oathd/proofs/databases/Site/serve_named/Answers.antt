@@ -9,22 +9,22 @@ use Rattle.oathd.proofs.databases.Site.serve_named.Goals as goal
 
 pub returns : goal.returns
 returns g c =
-    served_named _ _ (λ (other : Serving). other ≡ c.args.serving) (λ (named : NamedCluster). named ≡ c.args.cluster.now) never c.args.serving refl c.args.cluster.now refl
-    c.in_ok-moment.moment c.in_ok-moment.ensures.moment c.in_ok-_served._served _ c.in_ok-_served.ensures.served
+    served_named _ _ (λ (other : Serving). other ≡ c.args.serving) (λ (named : NamedCluster). named ≡ c.args.cluster.now) c.args.serving refl c.args.cluster.now refl
+    c.in_ok-moment.moment c.in_ok-moment.ensures.moment never c.in_ok-_served._served.0 _ c.in_ok-_served.ensures.served
 
 pub returns-in_err-moment : goal.returns-in_err-moment
 returns-in_err-moment g c =
     let fault = c.in_err-moment.field-0.0 in
-    failed_so c.from_residual.result fault (NamedEndsSo _ _ (λ (other : Serving). other ≡ c.args.serving) (λ (named : NamedCluster). named ≡ c.args.cluster.now) never)
+    failed_so c.from_residual.result fault (NamedEndsSo _ _ (λ (other : Serving). other ≡ c.args.serving) (λ (named : NamedCluster). named ≡ c.args.cluster.now))
     c.from_residual.ensures.1
-    (clock_named _ _ (λ (other : Serving). other ≡ c.args.serving) (λ (named : NamedCluster). named ≡ c.args.cluster.now) never fault c.in_err-moment.ensures.fault)
+    (clock_named _ _ (λ (other : Serving). other ≡ c.args.serving) (λ (named : NamedCluster). named ≡ c.args.cluster.now) fault c.in_err-moment.ensures.fault)
 
 pub returns-in_err-users : goal.returns-in_err-users
 returns-in_err-users g c =
     let fault = c.in_err-users.field-0.0 in
     failed_so c.from_residual-in_err-users.result fault
-    (NamedEndsSo _ _ (λ (other : Serving). other ≡ c.args.serving) (λ (named : NamedCluster). named ≡ c.args.cluster.now) never) c.from_residual-in_err-users.ensures.1
-    (users_named _ _ (λ (other : Serving). other ≡ c.args.serving) (λ (named : NamedCluster). named ≡ c.args.cluster.now) never c.args.serving refl c.args.cluster.now refl
+    (NamedEndsSo _ _ (λ (other : Serving). other ≡ c.args.serving) (λ (named : NamedCluster). named ≡ c.args.cluster.now)) c.from_residual-in_err-users.ensures.1
+    (users_named _ _ (λ (other : Serving). other ≡ c.args.serving) (λ (named : NamedCluster). named ≡ c.args.cluster.now) c.args.serving refl c.args.cluster.now refl
     c.in_ok-moment.moment c.in_ok-moment.ensures.moment fault c.in_err-users.ensures)
 
 pub returns-in_err-_served : goal.returns-in_err-_served
@@ -32,6 +32,6 @@ returns-in_err-_served g c =
     let fault = c.in_err-_served.field-0.0 in
     let text = drop (cursor_position c.in_ok-users.users) (cursor_inner c.in_ok-users.users).items in
     failed_so c.from_residual-in_err-_served.result (fault_of fault)
-    (NamedEndsSo _ _ (λ (other : Serving). other ≡ c.args.serving) (λ (named : NamedCluster). named ≡ c.args.cluster.now) never) c.from_residual-in_err-_served.ensures.1
-    (ended_named _ _ (λ (other : Serving). other ≡ c.args.serving) (λ (named : NamedCluster). named ≡ c.args.cluster.now) never c.args.serving refl c.args.cluster.now refl
+    (NamedEndsSo _ _ (λ (other : Serving). other ≡ c.args.serving) (λ (named : NamedCluster). named ≡ c.args.cluster.now)) c.from_residual-in_err-_served.ensures.1
+    (ended_named _ _ (λ (other : Serving). other ≡ c.args.serving) (λ (named : NamedCluster). named ≡ c.args.cluster.now) c.args.serving refl c.args.cluster.now refl
     c.in_ok-moment.moment c.in_ok-moment.ensures.moment fault text c.in_err-_served.ensures.fault)

@@ -1,0 +1,35 @@
+//! What a port counted since a process began.
+
+use arrayvec::ArrayVec;
+use operator_text::{Other, Refused};
+use sealed_port::Unopened;
+
+/// What a port counted since a process began. No number goes beyond `u64::MAX`.
+#[derive(Debug, Drop)]
+pub struct Counters {
+    /// The number of datagrams that the node received, of the replies that it sent, and of the lines that it accepted.
+    pub received: u64,
+    pub replied: u64,
+    pub accepted: u64,
+    pub refused: Refused,
+    /// The number of the node's ticks.
+    pub ticks: u64,
+    pub unopened: Unopened,
+    /// What is seen of the other members, in ascending order.
+    pub others: ArrayVec<Other, 8>,
+}
+
+impl Counters {
+    /// Returns the counters of a port that counts nothing.
+    pub fn none() -> Self {
+        Counters {
+            received: 0,
+            replied: 0,
+            accepted: 0,
+            refused: Refused::default(),
+            ticks: 0,
+            unopened: Unopened::new(),
+            others: ArrayVec::new(),
+        }
+    }
+}

@@ -1,0 +1,4 @@
+pub mod PassLemmas
+pub mod RosterLemmas
+pub mod StandingLemmas
+pub mod TextLemmas

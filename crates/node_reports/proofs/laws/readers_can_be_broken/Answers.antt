@@ -1,0 +1,5 @@
+use Rattle.std.proofs.Common.{ap, refl}
+use Rattle.node_reports.proofs.laws.readers_can_be_broken.Goals as goal
+
+pub returns-clause-unlocks : goal.returns-clause-unlocks
+returns-clause-unlocks c token is = rw is refl

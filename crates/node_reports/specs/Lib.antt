@@ -1,0 +1,5 @@
+pub mod Desk
+pub mod Roster
+pub mod Standing
+pub mod Text
+pub mod Told

@@ -1,0 +1,42 @@
+-- The state of a node, as a report tells it.
+use Rattle.std.specs.Prelude.{◌≡◌, ℕ, ◌+◌, nat_lt, Bool, if◌then◌else◌, List, [], ◌∷◌, length, Option}
+use Rattle.floor_store.specs.Content.{Content}
+use Rattle.floor_store.specs.Records.{RowRecord}
+use Rattle.node_log.specs.declared.counters.Counters.{Counters}
+use Rattle.operator_text.specs.declared.status.Status.{Status}
+use Rattle.node_reports.specs.declared.standing.Standing.{Standing}
+
+-- whether the token of a row is closed at a moment
+abbrev pub is_closed : ℕ → RowRecord → Bool
+is_closed moment row = nat_lt moment row.gate.until
+
+-- the number of closed tokens
+abbrev pub closed_in : ℕ → List RowRecord → ℕ
+closed_in moment [] = 0
+closed_in moment (row ∷ rows) = (if is_closed moment row then 1 else 0) + closed_in moment rows
+
+-- what a state tells of the store with a content
+pub record TellsStore (moment : ℕ) (content : Content) (status : Status) : Type 0 where
+  pub boot : status.boot ≡ content.boot
+  pub tokens : status.tokens ≡ length content.rows
+  pub closed : status.closed ≡ closed_in moment content.rows
+
+-- what it tells that stays as long as the process runs, and of the clock
+pub record TellsStanding (standing : Standing) (moment : ℕ) (status : Status) : Type 0 where
+  pub node : status.node ≡ standing.place.me
+  pub members : status.members ≡ standing.place.n
+  pub version : status.version ≡ standing.version
+  pub clock : status.clock ≡ moment
+  pub started : status.started ≡ standing.started
+  pub fingerprint : status.fingerprint ≡ standing.fingerprint
+  pub book : status.book ≡ standing.book
+
+-- what it tells of what the port counted
+pub record TellsCounters (counters : Counters) (status : Status) : Type 0 where
+  pub received : status.received ≡ counters.received
+  pub replied : status.replied ≡ counters.replied
+  pub accepted : status.accepted ≡ counters.accepted
+  pub refused : status.refused ≡ counters.refused
+  pub ticks : status.ticks ≡ counters.ticks
+  pub unopened : status.unopened ≡ counters.unopened
+  pub others : status.others.items ≡ counters.others.items

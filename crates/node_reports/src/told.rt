@@ -1,0 +1,37 @@
+//! The trait of what tells the reports of a store.
+
+use floor_store::{FloorStore, Pass, StoreFault};
+use oath_node::{Node, NodeFault};
+use operator_text::Report;
+use std::alloc::Global;
+
+/// What tells the reports of a node over a store.
+pub trait Told<S: FloorStore> {
+    ghost use Rattle.std.specs.Prelude.{ℕ, List, IfOk, IfSome};
+    ghost use Rattle.oath_node.specs.Reading.{ReadsNode};
+    ghost use Rattle.operator_text.specs.declared.request.Report.{Report as AnyReport};
+
+    // What the text of a report on a store says at a moment.
+    ghost says: { Self → S → AnyReport → ℕ → List ℕ → Type 0 };
+
+    /// Returns the text of a report on the store, at the given moment, or None if there is no such report.
+    ///
+    /// # Errors
+    /// Returns `Memory` if the allocator refuses the memory, or the fault that broke the store.
+    fn text(
+        &self,
+        alloc: Global,
+        store: &S,
+        report: Report,
+        moment: u64,
+    ) -> Result<Option<Vec<u8>>, StoreFault>
+        ensures { IfOk result (λ told. IfSome told (λ text.
+            says self.now store.now report moment text.items)) };
+
+    /// Returns the committed passes of the store of a node, in the order of their commits. The store keeps its content.
+    ///
+    /// # Errors
+    /// Returns `Store` if the store fails, or the allocator refuses the memory. The node is stopped.
+    fn passes(&self, alloc: Global, node: &mut Node<'_, S>) -> Result<Vec<Pass>, NodeFault>
+        ensures reads { ReadsNode S.held node.old node.new result };
+}

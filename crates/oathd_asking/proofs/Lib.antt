@@ -1,0 +1,4 @@
+mod PageLemmas
+mod RequestLemmas
+mod StateLemmas
+mod TableLemmas

@@ -1,0 +1,7 @@
+use Rattle.std.proofs.Common.{◌≡◌, map}
+use Rattle.oathd_asking.specs.Asked.{asked_of}
+use Rattle.oathd_asking.proofs.asker.take.Given as goal
+
+-- the requests ask what they asked
+abbrev pub invariant-loop-sent : goal.invariant-loop-sent
+invariant-loop-sent l = map asked_of l.all ≡ map asked_of l.initial.all

@@ -1,0 +1,295 @@
+"""What the members of a cluster by names tell an operator, by sealed requests, and what their logs have of a user."""
+import concurrent.futures
+import os
+import re
+import socket
+import subprocess
+import tempfile
+import threading
+import time
+from pathlib import Path
+from typing import NamedTuple
+
+import wakdulg
+from record import tail_of
+
+
+class Silent(Exception):
+    """A member gave no report."""
+
+
+class Refusal(Exception):
+    """A member refused a request."""
+
+
+class OperatorKey(wakdulg.Key):
+    """The key of a line `operator` or `reader`. It seals requests, and opens reports."""
+    REQUEST, ANSWER, MAX_TEXT = 3, 4, 1024
+
+    def seal(self, text, node, kind=REQUEST, moment=None, bound=b""):
+        return super().seal(text, node, kind, moment, bound)
+
+
+def read_operator(path):
+    """Returns the key of a file with one line, `operator NUMBER KEY` or `reader NUMBER KEY`."""
+    found = re.fullmatch(r"(?:operator|reader) ([0-9]{1,5}) ((?:[0-9A-Fa-f]{2})+)\n?", wakdulg.read_private(path))
+    if not found:
+        raise ValueError("not one line `operator NUMBER KEY`: " + path)
+    return OperatorKey(int(found[1]), bytes.fromhex(found[2]))
+
+
+class Row(NamedTuple):
+    """A row of a member's store."""
+    number: int
+    floor: int
+    user: bytes
+
+
+def row_of(line):
+    """Returns the row of a line of ROSTER."""
+    fields = line.split(b" ", 4)
+    return Row(int(fields[1]), int(fields[3]), fields[4])
+
+
+class Member:
+    """One member, and where its store has the row of each user. A store never moves a row, and a user's row changes at
+    a new boot alone."""
+
+    def __init__(self, number, address, key, pause):
+        self.number, self.address, self.key, self.pause = number, address, key, pause
+        self.boot, self.count, self.places, self.lock = None, 0, {}, threading.Lock()
+
+    def request(self, text):
+        """Returns the lines of a report. A request is sent at most three times."""
+        asked = wakdulg.Sealed(text, self.key, self.number)
+        with socket.socket(socket.AF_INET, socket.SOCK_DGRAM) as client:
+            client.connect(self.address)
+            for _ in range(3):
+                data = self.hear(client, asked)
+                if data is not None:
+                    lines = data.split(b"\n")[:-1]
+                    if lines and lines[0].startswith(b"NO "):
+                        raise Refusal(lines[0].decode("ascii", "replace"))
+                    return lines
+        raise Silent("member %d" % self.number)
+
+    def hear(self, client, asked):
+        end = time.monotonic() + self.pause
+        try:
+            client.send(asked.datagram())
+            while (left := end - time.monotonic()) > 0:
+                client.settimeout(left)
+                data = asked.opened(client.recv(2048))
+                if data is not None:
+                    return data
+        except OSError:
+            # Nobody is there, or nobody answers in time.
+            time.sleep(max(0, min(0.2, end - time.monotonic())))
+        return None
+
+    def pages(self, word, begin):
+        """Yields the lines of a report from the line `begin` on. It is of one moment, that of its first page."""
+        at = 0
+        while at is not None:
+            lines = self.request(b"%b %d" % (word, at))
+            mark = lines.pop().split()
+            yield from lines[max(0, begin - at):]
+            at = None if mark[0] == b"end" else max(int(mark[1]), begin)
+
+    def again(self, call):
+        """Returns what a call returns. Another report may begin amid the pages of one: then it is asked for again."""
+        for _ in range(4):
+            try:
+                return call()
+            except Refusal as refusal:
+                if str(refusal) != "NO REPORT":
+                    raise
+        raise Silent("member %d" % self.number)
+
+    def report(self, word, begin=0):
+        """Returns the lines of a whole report."""
+        return self.again(lambda: list(self.pages(word, begin)))
+
+    def row_at(self, place, user):
+        """Returns the row at a place, if it is the user's. It takes two pages at most."""
+        def ask():
+            lines, at = self.request(b"ROSTER 0"), place
+            if at >= len(lines) - 1 and lines[-1] != b"end":
+                lines, at = self.request(b"ROSTER %d" % place), 0
+            return row_of(lines[at]) if at < len(lines) - 1 else None
+        row = self.again(ask)
+        return row if row and row.user == user else None
+
+    def learn(self, begin):
+        """Returns the rows from a place on by their users, and keeps in mind where they are."""
+        rows = [row_of(line) for line in self.report(b"ROSTER", begin)]
+        found = {row.user: row for row in rows if row.user != b"-"}
+        self.places = {} if begin == 0 else self.places
+        self.places.update({user: row.number for user, row in found.items()})
+        self.count = begin + len(rows)
+        return found
+
+    def row_of_user(self, user):
+        """Returns the row of a user, or None. New rows stand at the end. All rows are asked for only if the boot is
+        new, and the row is neither there nor in its old place."""
+        with self.lock:
+            boot = next(line for line in self.request(b"STATUS 0") if line.startswith(b"boot "))
+            place = self.places.get(user)
+            if place is not None and (row := self.row_at(place, user)):
+                return row
+            if boot == self.boot:
+                return None
+            if self.boot and (row := self.learn(max(0, self.count - 1)).get(user)):
+                return row
+            found = self.learn(0)
+            self.boot = boot
+            return found.get(user)
+
+    def gate(self, user):
+        """Returns the failures of a user in a row and the second at which the token opens, or 0 and 0."""
+        for line in self.report(b"GATES"):
+            _, name, failures, until = line.split(b" ")
+            if name == user:
+                return int(failures), int(until)
+        return 0, 0
+
+    def unlock(self, user):
+        self.request(b"UNLOCK " + user)
+
+
+class State(NamedTuple):
+    """What one member says of a user. `says` is "yes", "no" or "silent"."""
+    member: int
+    says: str
+    floor: int = 0
+    failures: int = 0
+    until: int = 0
+
+
+class Members:
+    """The members of a cluster file, in order."""
+
+    def __init__(self, cluster_file, operator_file, oathd, patience):
+        self.oathd, self.operator_file = oathd, operator_file
+        lines = [line.split() for line in Path(cluster_file).read_text().splitlines()]
+        lines = [fields for fields in lines if fields and not fields[0].startswith("#")]
+        if not any(fields[0] == "names" for fields in lines):
+            raise ValueError("the cluster file gives no names: " + cluster_file)
+        self.nodes = ",".join(fields[2] for fields in lines if fields[0] == "member")
+        key = read_operator(operator_file)
+        self.all = [Member(number, wakdulg.read_node(node), key, patience / 8)
+                    for number, node in enumerate(self.nodes.split(","), 1)]
+        self.pool = concurrent.futures.ThreadPoolExecutor(4 * len(self.all))
+        # `oathd check` finds the faults of a users file under any key, so the key of the cluster isn't needed here.
+        self.folder = tempfile.TemporaryDirectory()
+        self.cluster = os.path.join(self.folder.name, "cluster")
+        kept = [" ".join(fields) for fields in lines if fields[0] not in ("key", "key-file")]
+        Path(self.cluster).write_text("\n".join([*kept, "key " + "00" * 32, ""]))
+
+    def ask_all(self, call):
+        """Returns what a call returns for each member, at once, or the exception that it raises."""
+        def one(member):
+            try:
+                return call(member)
+            except (Silent, Refusal, OSError) as fault:
+                return fault
+        return list(self.pool.map(one, self.all))
+
+    @staticmethod
+    def state_at(member, user):
+        try:
+            row = member.row_of_user(user)
+            failures, until = member.gate(user) if row else (0, 0)
+        except (Silent, Refusal, OSError):
+            return State(member.number, "silent")
+        return State(member.number, "yes" if row else "no", row.floor if row else 0, failures, until)
+
+    def states(self, user):
+        return self.ask_all(lambda member: self.state_at(member, user))
+
+    def unlock(self, user):
+        """Returns a word for each member: unlocked, or what hinders it."""
+        told = self.ask_all(lambda member: member.unlock(user))
+        words = {type(None): "unlocked", Silent: "silent"}
+        return ", ".join("member %d: %s" % (member.number, words.get(type(what), str(what)))
+                         for member, what in zip(self.all, told))
+
+    def table(self):
+        """Returns the rows of `oathd status --cluster`, with its head, or what it said."""
+        words = [self.oathd, "status", "--cluster", self.cluster, "--operator", self.operator_file]
+        done = subprocess.run(words, capture_output=True, text=True, timeout=120)
+        rows = [line.split(None, 6) for line in done.stdout.splitlines()]
+        return {"rows": rows[1:], "said": done.stderr.replace("oathd: ", "").strip(), "status": done.returncode,
+                "when": time.strftime("%H:%M:%S UTC", time.gmtime())}
+
+
+class Table:
+    """The last table of the members. It is asked for while somebody looks at it, every few seconds."""
+    PAUSE, MOST = 4, 16
+
+    def __init__(self, members):
+        self.members, self.ready, self.last, self.number, self.asked = members, threading.Condition(), None, 0, 0
+        self.is_asking, self.places = False, threading.BoundedSemaphore(self.MOST)
+
+    def after(self, number, patience=150):
+        """Returns the number of a table later than `number`, and the table. One thread asks for all who wait."""
+        end = time.monotonic() + patience
+        with self.ready:
+            while self.number <= number and time.monotonic() < end:
+                if self.is_asking:
+                    self.ready.wait(1)
+                    continue
+                self.is_asking = True
+                self.ready.release()
+                try:
+                    table = self.ask()
+                finally:
+                    self.ready.acquire()
+                    self.is_asking = False
+                    self.ready.notify_all()
+                self.last, self.number = table, self.number + 1
+            return self.number, self.last
+
+    def ask(self):
+        time.sleep(max(0, self.asked + self.PAUSE - time.monotonic()) if self.number else 0)
+        try:
+            table = self.members.table()
+        except (OSError, subprocess.SubprocessError) as fault:
+            table = {"rows": [], "said": type(fault).__name__, "status": 2, "when": ""}
+        self.asked = time.monotonic()
+        return table
+
+    def now(self):
+        """Returns a table that is some seconds old at most."""
+        with self.ready:
+            is_old = time.monotonic() > self.asked + 2 * self.PAUSE
+            number, last = self.number, self.last
+        return (number, last) if last and not is_old else self.after(number)
+
+
+class Logs:
+    """The logs of members, as far as this host has them: the path of each member's log."""
+    LINE = re.compile(rb'(?:(.*?) )?(accepted|refused) from=([^ ]+) (OK|NO) [^ ]+ (.*) user="((?:[^"\\]|\\x..)*)"')
+
+    def __init__(self, paths):
+        self.paths = paths
+
+    @staticmethod
+    def quoted(user):
+        return "".join(chr(byte) if 33 <= byte <= 126 and byte not in b'"\\' else "\\x%02x" % byte
+                       for byte in user).encode()
+
+    def last(self, user, count):
+        """Returns the last answers to a user: member, moment, word, client, and the factor or reason."""
+        found, name = [], self.quoted(user)
+        for member, path in sorted(self.paths.items()):
+            try:
+                lines = tail_of(path)
+            except OSError:
+                continue
+            mine = [match.groups() for line in lines if b'user="%b"' % name in line
+                    and (match := self.LINE.fullmatch(line)) and match[6] == name]
+            for moment, word, client, _, rest, _ in mine[-count:][::-1]:
+                told = [(field or b"").decode("ascii", "replace") for field in (moment, word, client, rest)]
+                found.append((member, *told))
+        return sorted(found, key=lambda each: each[1], reverse=True)
