@@ -54,13 +54,20 @@ const SECOND: &[u8; 32] = &[b'c'; 32];
 
 const THIRD: &[u8; 34] = &[b'd'; 34];
 
-/// Returns the bundle of the three.
-fn bundle_of_three() -> [u8; 105] {
-    let mut bytes = [0; 105];
+/// Returns the bundle of the first two.
+fn bundle_of_two() -> [u8; 70] {
+    let mut bytes = [0; 70];
     bytes[..4].copy_from_slice(b"OB\x01\x21");
     bytes[4..37].copy_from_slice(FIRST);
     bytes[37] = 32;
-    bytes[38..70].copy_from_slice(SECOND);
+    bytes[38..].copy_from_slice(SECOND);
+    bytes
+}
+
+/// Returns the bundle of the three.
+fn bundle_of_three() -> [u8; 105] {
+    let mut bytes = [0; 105];
+    bytes[..70].copy_from_slice(&bundle_of_two());
     bytes[70] = 34;
     bytes[71..].copy_from_slice(THIRD);
     bytes
@@ -96,8 +103,7 @@ fn flush_offers_what_waits(rt: HostRuntime) -> Result<(), Fail> {
     port.flush();
     let entries = port.port.record().ok_or("a record")?;
     assert!(rt; entries.len() == 1);
-    let three = bundle_of_three();
-    assert!(rt; is_offer(&entries[0], Sender::Peer(2), &three[..70]));
+    assert!(rt; is_offer(&entries[0], Sender::Peer(2), &bundle_of_two()));
     wait(&mut port, 1);
     let below = port.into_inner();
     let entries = below.record().ok_or("a record")?;

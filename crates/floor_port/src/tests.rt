@@ -232,7 +232,7 @@ fn single_floors(rt: HostRuntime) -> Result<(), Fail> {
         len: 54,
     };
     assert!(rt; port.receive(&mut buffer) == from_3);
-    assert!(rt; &buffer[..54] == told_7.as_slice());
+    assert!(rt; buffer.as_slice().starts_with(&told_7));
     let len = len_of(port.receive(&mut buffer))?;
     assert!(rt; &buffer[..len] == told_7.as_slice());
     Ok(())
