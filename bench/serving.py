@@ -149,6 +149,8 @@ class Nodes:
         with open(self.path("client.key"), "w") as key, open(self.path("clients"), "w") as clients:
             key.write(client_key)
             clients.write("client 7 %s\nplain 127.0.0.9\n" % client_key)
+        # The clients refuse a key that others may read.
+        os.chmod(self.path("client.key"), 0o600)
         # Whether they keep a log. Each process has a file of its own for it, log.NODE.LIFE.
         self.is_logged, self.lives = False, [0] * count
         self.processes = [None] * count

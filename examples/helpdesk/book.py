@@ -30,6 +30,11 @@ class User(NamedTuple):
     def hex(self):
         return self.name.hex()
 
+    @property
+    def has_password(self):
+        """Whether the cluster checks a password of this user."""
+        return self.password not in PASSWORDS.values()
+
     def period(self):
         """Returns the seconds of a step, or None for an event token."""
         return {"T30": 30, "T60": 60}.get((self.type + "/").split("/")[1])

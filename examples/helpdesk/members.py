@@ -11,31 +11,13 @@ from pathlib import Path
 from typing import NamedTuple
 
 import wakdulg
+import wakdulg_operator
 from record import tail_of
-
-
-class Silent(Exception):
-    """A member gave no report."""
+from wakdulg_operator import Silent
 
 
 class Refusal(Exception):
     """A member refused a request."""
-
-
-class OperatorKey(wakdulg.Key):
-    """The key of a line `operator` or `reader`. It seals requests, and opens reports."""
-    REQUEST, ANSWER, MAX_TEXT = 3, 4, 1024
-
-    def seal(self, text, node, kind=REQUEST, moment=None, bound=b""):
-        return super().seal(text, node, kind, moment, bound)
-
-
-def read_operator(path):
-    """Returns the key of a file with one line, `operator NUMBER KEY` or `reader NUMBER KEY`."""
-    found = re.fullmatch(r"(?:operator|reader) ([0-9]{1,5}) ((?:[0-9A-Fa-f]{2})+)\n?", wakdulg.read_private(path))
-    if not found:
-        raise ValueError("not one line `operator NUMBER KEY`: " + path)
-    return OperatorKey(int(found[1]), bytes.fromhex(found[2]))
 
 
 class Row(NamedTuple):
@@ -61,7 +43,7 @@ class Member:
 
     def request(self, text):
         """Returns the lines of a report. A request is sent at most three times."""
-        asked = wakdulg.Sealed(text, self.key, self.number)
+        asked = wakdulg_operator.Request(text, self.key, self.number)
         with socket.socket(socket.AF_INET, socket.SOCK_DGRAM) as client:
             client.connect(self.address)
             for _ in range(3):
@@ -77,15 +59,11 @@ class Member:
         end = time.monotonic() + self.pause
         try:
             client.send(asked.datagram())
-            while (left := end - time.monotonic()) > 0:
-                client.settimeout(left)
-                data = asked.opened(client.recv(2048))
-                if data is not None:
-                    return data
+            return wakdulg_operator.hear(client, asked, end)
         except OSError:
-            # Nobody is there, or nobody answers in time.
+            # Nobody is there.
             time.sleep(max(0, min(0.2, end - time.monotonic())))
-        return None
+            return None
 
     def pages(self, word, begin):
         """Yields the lines of a report from the line `begin` on. It is of one moment, that of its first page."""
@@ -166,25 +144,31 @@ class State(NamedTuple):
     until: int = 0
 
 
+class ClusterFile:
+    """A cluster file by names: the addresses of its members, and a copy of it without the key. `oathd check` finds the
+    faults of a users file under any key, so a site needs none of the cluster's."""
+
+    def __init__(self, path):
+        lines = [line.split() for line in Path(path).read_text().splitlines()]
+        lines = [fields for fields in lines if fields and not fields[0].startswith("#")]
+        if not any(fields[0] == "names" for fields in lines):
+            raise ValueError("the cluster file gives no names: " + path)
+        self.nodes = ",".join(fields[2] for fields in lines if fields[0] == "member")
+        self.folder = tempfile.TemporaryDirectory()
+        self.keyless = os.path.join(self.folder.name, "cluster")
+        kept = [" ".join(fields) for fields in lines if fields[0] not in ("key", "key-file")]
+        Path(self.keyless).write_text("\n".join([*kept, "key " + "00" * 32, ""]))
+
+
 class Members:
     """The members of a cluster file, in order."""
 
-    def __init__(self, cluster_file, operator_file, oathd, patience):
-        self.oathd, self.operator_file = oathd, operator_file
-        lines = [line.split() for line in Path(cluster_file).read_text().splitlines()]
-        lines = [fields for fields in lines if fields and not fields[0].startswith("#")]
-        if not any(fields[0] == "names" for fields in lines):
-            raise ValueError("the cluster file gives no names: " + cluster_file)
-        self.nodes = ",".join(fields[2] for fields in lines if fields[0] == "member")
-        key = read_operator(operator_file)
+    def __init__(self, file, operator_file, oathd, patience):
+        self.oathd, self.operator_file, self.keyless = oathd, operator_file, file.keyless
+        key = wakdulg_operator.read_operator(operator_file)
         self.all = [Member(number, wakdulg.read_node(node), key, patience / 8)
-                    for number, node in enumerate(self.nodes.split(","), 1)]
+                    for number, node in enumerate(file.nodes.split(","), 1)]
         self.pool = concurrent.futures.ThreadPoolExecutor(4 * len(self.all))
-        # `oathd check` finds the faults of a users file under any key, so the key of the cluster isn't needed here.
-        self.folder = tempfile.TemporaryDirectory()
-        self.cluster = os.path.join(self.folder.name, "cluster")
-        kept = [" ".join(fields) for fields in lines if fields[0] not in ("key", "key-file")]
-        Path(self.cluster).write_text("\n".join([*kept, "key " + "00" * 32, ""]))
 
     def ask_all(self, call):
         """Returns what a call returns for each member, at once, or the exception that it raises."""
@@ -216,7 +200,7 @@ class Members:
 
     def table(self):
         """Returns the rows of `oathd status --cluster`, with its head, or what it said."""
-        words = [self.oathd, "status", "--cluster", self.cluster, "--operator", self.operator_file]
+        words = [self.oathd, "status", "--cluster", self.keyless, "--operator", self.operator_file]
         done = subprocess.run(words, capture_output=True, text=True, timeout=120)
         rows = [line.split(None, 6) for line in done.stdout.splitlines()]
         return {"rows": rows[1:], "said": done.stderr.replace("oathd: ", "").strip(), "status": done.returncode,

@@ -1,29 +1,16 @@
-"""The pages of the helpdesk: who may see them, their forms, and what the browser is told."""
+"""The pages of the helpdesk: what staff see, and what they do."""
 import json
 import time
 
-import wakdulg
 from acts import KINDS
-from flask import Flask, Response, redirect, render_template, request
-from sessions import COOKIE, names_in, is_same
+from flask import Response, redirect, render_template, request
+from sessions import is_same
 from tokens import Fault
+import wakdulg
+import web
+from web import Stop, address
 
-# A refusal takes this many seconds, so its time doesn't tell who is staff.
-REFUSAL = 1.0
-REFUSED = "That was not right, or was used before, or came too soon. Wait for some seconds, and give the next code."
-UNDECIDED = "The cluster doesn't decide now. Try again in a minute, with the next code."
-FOREIGN = "Use the form of this page. Load it again, and repeat."
 MOST_FOUND, MOST_LINES = 50, 10
-HEADERS = {
-    "Cache-Control": "no-store",
-    "Content-Security-Policy": "default-src 'none'; style-src 'self'; script-src 'self'; connect-src 'self'; "
-                               "img-src 'self'; base-uri 'none'; form-action 'self'; frame-ancestors 'none'",
-    "X-Content-Type-Options": "nosniff",
-    "X-Frame-Options": "DENY",
-    # With `no-referrer` a browser would send `Origin: null` with a form.
-    "Referrer-Policy": "same-origin",
-    "Cross-Origin-Opener-Policy": "same-origin",
-}
 ACTS = {
     "unlock": ("Unlock", "All members forget the failures of this user. Whoever guesses can guess again."),
     "resync": ("Resynchronize", "Two codes in a row of the user's token set its counter. Both are used up."),
@@ -32,79 +19,30 @@ ACTS = {
 }
 
 
-class Stop(Exception):
-    """The answer in place of a page."""
-
-    def __init__(self, answer):
-        super().__init__()
-        self.answer = answer
-
-
-def address():
-    return request.headers.get("X-Real-IP", "-")
-
-
-class Site:
+class Site(web.Pages):
     """What the helpdesk answers."""
+    name = "Helpdesk"
+    places = [("/", "Search"), ("/enrol", "Enrol"), ("/import", "Import"), ("/cluster", "Cluster"),
+              ("/record", "Record")]
 
     def __init__(self, words):
-        self.origin, self.desk, self.sessions = words.origin, words.desk, words.sessions
-        self.book, self.members, self.cluster = words.desk.book, words.desk.members, words.desk.cluster
-        self.table, self.logs, self.record, self.login_log = words.table, words.logs, words.record, words.login_log
+        super().__init__(words)
+        self.members, self.table, self.logs = words.desk.members, words.table, words.logs
 
     # ---- Who asks
 
-    def cookie(self):
-        names = names_in(request.headers.get("Cookie", ""))
-        return names[0] if len(names) == 1 else ""
+    def is_welcome(self, session):
+        return session.user in self.desk.staff()
 
-    def session(self, is_used=True):
-        """Returns the session of the browser, or None. Of two cookies one was planted, and neither counts."""
-        name = self.cookie()
-        session = self.sessions.find(name, is_used) if name else None
-        return session if session and session.user in self.desk.staff() else None
+    def check_login(self, user):
+        if user not in self.desk.staff():
+            raise wakdulg.BadField("not staff")
+        return self.check_code(user)
 
-    def staff_session(self, is_used=True):
-        session = self.session(is_used)
-        if session is None:
-            raise Stop(redirect("/login", 303) if request.method == "GET" else
-                       (self.page("message.html", "Log in", fault="Your session is over. Log in, and repeat."), 403))
-        return session
-
-    def is_own_form(self):
-        """Returns whether a form comes from a page that this browser got from us."""
-        site = request.headers.get("Sec-Fetch-Site")
-        is_own = site == "same-origin" if site is not None else request.headers.get("Origin") == self.origin
-        name = self.cookie()
-        return bool(is_own and name and is_same(request.form.get("token", ""), self.sessions.form_token(name)))
-
-    def posted(self):
-        """Returns the session of a form that is ours."""
-        session = self.staff_session()
-        if not self.is_own_form():
-            raise Stop((self.page("message.html", "Refused", fault=FOREIGN, session=session), 403))
-        return session
-
-    def second_code(self, session):
-        """Returns None if the form has a good code of staff, else a status and a text."""
-        begin = time.monotonic()
-        try:
-            self.cluster.check(session.user, request.form.get("code", "").strip())
-            return None
-        except wakdulg.Undecided:
-            told = 503, UNDECIDED
-        except wakdulg.Refused:
-            told = 403, REFUSED
-        self.login_log.info(wakdulg.log_line(address(), session.user, refusal_of(told)))
-        time.sleep(max(0, begin + REFUSAL - time.monotonic()))
-        return told
+    def check_code(self, user):
+        return self.cluster.check(user, request.form.get("code", "").strip())
 
     # ---- Pages
-
-    def page(self, template, title, session=None, **told):
-        notice = session.take_notice() if session else ""
-        return render_template(template, title=title, session=session, notice=notice, path=request.path,
-                               token=self.sessions.form_token(self.cookie()), **told)
 
     def user_of(self, name):
         try:
@@ -116,53 +54,13 @@ class Site:
                                   fault="The users file has no such user."), 404))
         return user
 
-    def show_login(self, fault="", status=200):
-        name = self.cookie() or self.sessions.new_name()
-        page = render_template("login.html", title="Log in", fault=fault, path="/login", session=None, notice="",
-                               token=self.sessions.form_token(name))
-        answer = Response(page, status)
-        if name != self.cookie():
-            set_cookie(answer, name)
-        return answer
-
-    def log_in(self):
-        if not self.is_own_form():
-            return self.show_login(FOREIGN, 403)
-        begin, user, outcome = time.monotonic(), request.form.get("user", ""), None
-        try:
-            if user not in self.desk.staff():
-                raise wakdulg.BadField("not staff")
-            outcome = self.cluster.check(user, request.form.get("code", "").strip())
-        except wakdulg.Refused as refusal:
-            outcome = refusal
-        is_in = isinstance(outcome, wakdulg.Accepted)
-        self.login_log.info(wakdulg.log_line(address(), user, outcome))
-        if is_in:
-            self.record.write(user, "log in", "", "done", address())
-            self.sessions.end(self.cookie())
-            answer = redirect("/", 303)
-            # A new id: one that somebody planted before the login is worth nothing.
-            set_cookie(answer, self.sessions.begin(user))
-            return answer
-        time.sleep(max(0, begin + REFUSAL - time.monotonic()))
-        is_undecided = isinstance(outcome, wakdulg.Undecided)
-        return self.show_login(UNDECIDED, 503) if is_undecided else self.show_login(REFUSED, 403)
-
-    def log_out(self):
-        session = self.posted()
-        self.sessions.end(self.cookie())
-        self.record.write(session.user, "log out", "", "done", address())
-        answer = redirect("/login", 303)
-        set_cookie(answer, self.sessions.new_name())
-        return answer
-
     def found(self):
         text = request.args.get("q", "")
         users, count = self.book.search(text, MOST_FOUND)
         return text, users, count
 
     def show_search(self):
-        session = self.staff_session()
+        session = self.own_session()
         text, users, count = self.found()
         return self.page("search.html", "Search", session, text=text, users=users, count=count, fault=self.book.fault)
 
@@ -177,7 +75,7 @@ class Site:
         return answer
 
     def show_user(self, name):
-        session, user = self.staff_session(), self.user_of(name)
+        session, user = self.own_session(), self.user_of(name)
         return self.page("user.html", user.text, session, user=user, acts=ACTS, states=self.members.states(user.name),
                          now=int(time.time()), answers=self.logs.last(user.name, MOST_LINES),
                          done=self.record.last(MOST_LINES, user.text))
@@ -190,7 +88,7 @@ class Site:
         return render_template("states.html", user=user, states=self.members.states(user.name), now=int(time.time()))
 
     def show_cluster(self):
-        session = self.staff_session()
+        session = self.own_session()
         return self.page("cluster.html", "The cluster", session, table=self.table.now()[1])
 
     def events(self):
@@ -214,7 +112,7 @@ class Site:
         return Response(tell(), content_type="text/event-stream", headers={"X-Accel-Buffering": "no"})
 
     def show_record(self):
-        session = self.staff_session()
+        session = self.own_session()
         return self.page("record.html", "What staff did", session, done=self.record.last(200))
 
     # ---- Acts
@@ -222,10 +120,10 @@ class Site:
     def perform(self, session, act, user, call):
         """Makes an act after the second code of staff, and notes both in the record. Returns a fault, a status, and
         what the call returned. An act that can't be noted isn't begun."""
-        refusal = self.second_code(session)
+        _, refusal = self.ask(session.user, lambda: self.check_code(session.user))
         if refusal:
             self.record.write(session.user, act, user, "refused: the second code", address())
-            return refusal[1], refusal[0], None
+            return (*refusal, None)
         self.record.write(session.user, act, user, "begins", address())
         try:
             done = call()
@@ -244,7 +142,7 @@ class Site:
                          what=what, seen=seen, fault=fault), status
 
     def show_act(self, name, act):
-        session, user = self.staff_session(), self.user_of(name)
+        session, user = self.own_session(), self.user_of(name)
         return self.confirmation(session, user, act) if act in ACTS else ("", 404)
 
     def do_act(self, name, act):
@@ -263,13 +161,13 @@ class Site:
         return redirect("/" if act == "retire" else "/users/%s" % user.hex, 303)
 
     def show_secret(self, name):
-        session, user = self.staff_session(), self.user_of(name)
+        session, user = self.own_session(), self.user_of(name)
         shown = session.shown.pop(user.hex, None) if request.method == "GET" else None
         return self.page("secret.html", "The new phone of %s" % user.text, session, user=user, shown=shown,
                          states=self.members.states(user.name), now=int(time.time()))
 
     def show_enrol(self, fault="", status=200):
-        session = self.staff_session()
+        session = self.own_session()
         return self.page("enrol.html", "Enrol a user", session, kinds=KINDS, fault=fault,
                          name=request.form.get("name", "")), status
 
@@ -283,7 +181,7 @@ class Site:
         return redirect("/users/%s/secret" % key, 303)
 
     def show_import(self, fault="", status=200):
-        session = self.staff_session()
+        session = self.own_session()
         return self.page("import.html", "Import users", session, fault=fault), status
 
     def dry_run(self):
@@ -306,7 +204,7 @@ class Site:
         return session.imports[name]
 
     def show_dry_run(self, name, fault="", status=200):
-        session = self.staff_session()
+        session = self.own_session()
         tokens, faults = self.kept_import(session, name)
         rows = [(token.user, token.type_word(), token.place) for token in tokens]
         return self.page("dry-run.html", "Import: dry run", session, rows=rows, faults=faults, fault=fault), status
@@ -324,24 +222,9 @@ class Site:
         return redirect("/", 303)
 
 
-def refusal_of(told):
-    return wakdulg.Refused("second code, %d" % told[0])
-
-
-def set_cookie(answer, name):
-    answer.set_cookie(COOKIE, name, path="/", secure=True, httponly=True, samesite="Strict")
-
-
-def at_moment(seconds):
-    return time.strftime("%Y-%m-%d %H:%M:%S UTC", time.gmtime(seconds))
-
-
 def make_application(words):
     """Returns the application of these words."""
-    site, application = Site(words), Flask("helpdesk", root_path=words.folder)
-    application.config["MAX_CONTENT_LENGTH"] = 2_000_000
-    application.jinja_env.filters["at_moment"] = at_moment
-    application.jinja_env.trim_blocks = application.jinja_env.lstrip_blocks = True
+    site = Site(words)
     routes = [
         ("/", site.show_search, "GET"), ("/search.json", site.search, "GET"), ("/login", site.show_login, "GET"),
         ("/login", site.log_in, "POST"), ("/logout", site.log_out, "POST"), ("/cluster", site.show_cluster, "GET"),
@@ -352,13 +235,4 @@ def make_application(words):
         ("/users/<name>/states", site.show_states, "GET"), ("/users/<name>/secret", site.show_secret, "GET"),
         ("/users/<name>/<act>", site.show_act, "GET"), ("/users/<name>/<act>", site.do_act, "POST"),
     ]
-    for path, view, method in routes:
-        application.add_url_rule(path, method + path, view, methods=[method])
-    application.register_error_handler(Stop, lambda stop: stop.answer)
-    application.after_request(with_headers)
-    return application
-
-
-def with_headers(answer):
-    answer.headers.update(HEADERS)
-    return answer
+    return web.make_application(words, site, routes)

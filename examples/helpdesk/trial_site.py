@@ -1,4 +1,5 @@
-"""A helpdesk on this machine: three nodes by names with --reload, nginx with TLS, and the helpdesk, on free ports."""
+"""A site on this machine: three nodes by names with --reload, nginx with TLS, and the helpdesk, on free ports."""
+import base64
 import os
 import secrets
 import shutil
@@ -12,12 +13,17 @@ HERE = Path(__file__).resolve().parent
 TOP = HERE.parent.parent
 sys.path[:0] = [str(HERE), str(TOP / "tools/lib"), str(TOP / "examples/clients"), str(TOP / "examples/onboarding")]
 import wakdulg
-from members import Member, Silent, read_operator
+from members import Member, Silent
 from net import free_ports
 from otp import code
+from tokens import read_rows
+from wakdulg_operator import read_operator
 
 OATHD = os.environ.get("OATHD", str(TOP / "oathd"))
-NODES, HOST, PATIENCE = (1, 2, 3), "helpdesk.example", 300
+OATHTOOL = os.environ.get("OATHTOOL", str(TOP / "oathtool"))
+NODES, PATIENCE = (1, 2, 3), 300
+# From this address nodes take lines without a seal, and without the second of `ahead` after each boot.
+PLAIN_ADDRESS = "127.0.0.9"
 IS_ROOT = os.geteuid() == 0
 # As journald does, each line of a log gets its moment.
 STAMP = """import sys, time
@@ -28,12 +34,13 @@ for line in sys.stdin:
 class Token:
     """A token in the hand of one user. It never gives a code twice."""
 
-    def __init__(self, name, is_event=True, secret=None):
-        self.name, self.is_event, self.next = name, is_event, 0
-        self.secret = secret or name.encode().ljust(20, b".")[:20]
+    def __init__(self, name, is_event=True, password="-"):
+        self.name, self.is_event, self.password, self.next = name, is_event, password, 0
+        # A secret of its own, so that a log in which it is found has it from nowhere else.
+        self.secret = secrets.token_bytes(20)
 
     def row(self):
-        return "HOTP%s %s - %s\n" % ("" if self.is_event else "/T30", self.name, self.secret.hex())
+        return "HOTP%s %s %s %s\n" % ("" if self.is_event else "/T30", self.name, self.password, self.secret.hex())
 
     def code(self):
         factor = self.next if self.is_event else max(self.next, int(time.time()) // 30)
@@ -44,15 +51,16 @@ class Token:
 
 
 class Site:
-    """All processes and files of the site, in a folder."""
+    """All processes and files of the site, in a folder. The folder desk is that of the helpdesk."""
+    host = "helpdesk.example"
 
     def __init__(self, folder, tokens, staff):
-        self.folder, self.processes = Path(folder), {}
+        self.folder, self.processes, self.secrets = Path(folder), {}, set()
         *self.ports, self.port = free_ports(3) + free_ports(1, socket.SOCK_STREAM)
-        self.url = "https://%s:%d" % (HOST, self.port)
+        self.url = "https://%s:%d" % (self.host, self.port)
         self.folder.chmod(0o711)
         self.desk = self.folder / "desk"
-        for name in "desk", "members/1", "members/2", "members/3":
+        for name in "desk", "made", "members/1", "members/2", "members/3":
             (self.folder / name).mkdir(parents=True)
         self.write_files(tokens, staff)
         made = [subprocess.Popen([OATHD, "init", *self.words(node), "--begins"], cwd=self.folder,
@@ -67,9 +75,11 @@ class Site:
         lines = ["names trial-of-a-helpdesk", "life 1", "key-file key", "new-tokens fresh", *members]
         cluster = "\n".join(lines) + "\n"
         key, front, operator, reader = (secrets.token_hex(32) for _ in range(4))
+        self.secrets = {key, front, operator, reader}
         self.write("cluster", cluster.replace("key-file key", "key-file %s/key" % self.folder))
         self.write("key", key)
-        self.write("clients", "client 7 %s\noperator 900 %s\nreader 901 %s\n" % (front, operator, reader))
+        clients = ["ahead 1", "plain " + PLAIN_ADDRESS, "client 7 " + front, "operator 900 " + operator]
+        self.write("clients", "\n".join([*clients, "reader 901 " + reader, ""]))
         # The helpdesk has no key of the cluster.
         self.write("desk/cluster", cluster)
         self.write("desk/front.key", front)
@@ -80,17 +90,22 @@ class Site:
         for node in NODES:
             self.write("members/%d/users" % node, text)
         if IS_ROOT:
-            for path in [self.folder / "members", self.desk, *self.desk.iterdir(), *self.folder.glob("members/*"),
-                         *self.folder.glob("members/*/users")]:
+            for path in [self.folder / "members", self.folder / "made", self.desk, *self.desk.iterdir(),
+                         *self.folder.glob("members/*"), *self.folder.glob("members/*/users")]:
                 shutil.chown(path, "nobody", "www-data")
         self.desk.chmod(0o750)
+        self.make_certificate()
+        text = (HERE / "nginx.conf").read_text().replace("FOLDER", str(self.folder))
+        text = text.replace("SITE", "127.0.0.1:%d" % self.port).replace("helpdesk.example", self.host)
+        # The checks look for secrets in a log of all addresses, which a site doesn't keep.
+        text = text.replace("access_log off", "access_log %s/access.log" % self.folder)
+        self.write("nginx.conf", text if IS_ROOT else text.replace("user www-data;\n", ""))
+
+    def make_certificate(self):
         words = ["openssl", "req", "-x509", "-newkey", "ec", "-pkeyopt", "ec_paramgen_curve:prime256v1", "-nodes",
-                 "-days", "2", "-subj", "/CN=" + HOST, "-addext", "subjectAltName=DNS:" + HOST,
+                 "-days", "2", "-subj", "/CN=" + self.host, "-addext", "subjectAltName=DNS:" + self.host,
                  "-keyout", self.folder / "certificate-key", "-out", self.folder / "certificate"]
         subprocess.run(words, check=True, capture_output=True)
-        text = (HERE / "nginx.conf").read_text().replace("FOLDER", str(self.folder))
-        text = text.replace("SITE", "127.0.0.1:%d" % self.port)
-        self.write("nginx.conf", text if IS_ROOT else text.replace("user www-data;\n", ""))
 
     def write(self, name, text):
         path = self.folder / name
@@ -119,9 +134,20 @@ class Site:
         text = ",".join("%d=%s" % (node, self.address(node)) for node in nodes)
         return wakdulg.Cluster(text, (6.0, 15.0), 60.0, key=key)
 
-    def member(self, node):
+    def member(self, node, pause=3):
         """Returns what asks a running node, as the helpdesk does."""
-        return Member(node, ("127.0.0.1", self.ports[node - 1]), read_operator(str(self.desk / "operator")), 3)
+        return Member(node, ("127.0.0.1", self.ports[node - 1]), read_operator(str(self.desk / "operator")), pause)
+
+    def book_of(self, node):
+        """Returns the print of the users file that a running member has, or None if it is silent."""
+        try:
+            return next(line for line in self.member(node).request(b"STATUS 0") if line.startswith(b"book"))
+        except Silent:
+            return None
+
+    def book_of_file(self, node):
+        """Returns the print of the users file that lies at a member."""
+        return self.oathd("check", "members/%d/users" % node, "--cluster", "cluster").encode().splitlines()[-1]
 
     def start_nodes(self, *nodes):
         for node in nodes:
@@ -150,18 +176,27 @@ class Site:
     def read_all(self, *names):
         return "".join(self.read(name) for name in names if (self.folder / name).exists())
 
-    def start_desk(self):
+    def desk_words(self):
+        """Returns the words of the service."""
+        words = [HERE / "helpdesk", "--operator", self.desk / "operator"]
+        return words + ["--log=%d=%s" % (node, self.folder / ("log.%d" % node)) for node in NODES]
+
+    def push(self):
+        """Returns the hook. It also keeps each file, for the checks that look for secrets."""
         copies = [self.folder / "members" / str(node) / "users" for node in NODES]
         push = " ".join(map(str, [HERE / "push-users", self.desk / "users", *copies]))
-        words = [HERE / "helpdesk", "--key-file", "7:%s" % (self.desk / "front.key"), "--issuer", "Example Site",
-                 "--push", push, "--patience", "60"]
-        for name in "operator", "cluster", "users", "staff", "record":
+        return "sh -c 'cp %s %s/$(date +%%s%%N) && exec %s'" % (self.desk / "users", self.folder / "made", push)
+
+    def start_desk(self, *more_words):
+        words = [*self.desk_words(), *more_words, "--key-file", "7:%s" % (self.desk / "front.key"), "--issuer",
+                 "Example Site", "--push", self.push(), "--patience", "60"]
+        for name in "cluster", "users", "staff", "record":
             words += ["--" + name, self.desk / name]
-        words += ["--log=%d=%s" % (node, self.folder / ("log.%d" % node)) for node in NODES]
         more = {"user": "nobody", "group": "www-data", "extra_groups": []} if IS_ROOT else {}
         out, faults = (open(self.folder / name, "ab") for name in ("logins", "faults"))
-        self.processes["desk"] = subprocess.Popen([*map(str, words), str(self.desk / "socket"), self.url], stdout=out,
-                                                  stderr=faults, env={**os.environ, "OATHD": OATHD}, cwd="/", **more)
+        words += [self.desk / "socket", self.url]
+        self.processes["desk"] = subprocess.Popen(list(map(str, words)), stdout=out, stderr=faults, cwd="/",
+                                                  env={**os.environ, "OATHD": OATHD}, **more)
 
     def start_nginx(self):
         nginx = shutil.which("nginx", path=os.environ["PATH"] + ":/usr/sbin")
@@ -175,13 +210,49 @@ class Site:
         self.start_nginx()
         self.await_that(lambda: self.curl("/login")[0] == "200", "the site answers")
 
+    def fetch(self, path, *words):
+        """Returns what curl prints for a path of the site."""
+        done = subprocess.run(["curl", "-s", "-m", "280", "--cacert", self.folder / "certificate", "--resolve",
+                               "%s:%d:127.0.0.1" % (self.host, self.port), *words, self.url + path],
+                              capture_output=True, text=True)
+        return done.stdout
+
     def curl(self, path, *words):
         """Returns the status of a request, its head and its body."""
-        done = subprocess.run(["curl", "-s", "-i", "-m", "280", "--cacert", self.folder / "certificate", "--resolve",
-                               "%s:%d:127.0.0.1" % (HOST, self.port), *words, self.url + path],
-                              capture_output=True, text=True)
-        head, _, body = done.stdout.replace("\r", "").partition("\n\n")
+        head, _, body = self.fetch(path, "-i", *words).replace("\r", "").partition("\n\n")
         return (head.split(" ") + [""])[1], head, body
+
+    def by_hand(self, text):
+        """Changes the users file as an operator does."""
+        users = self.desk / "users"
+        new = users.with_name("users.byhand")
+        new.write_text(text)
+        new.chmod(0o600)
+        os.chown(new, users.stat().st_uid, users.stat().st_gid)
+        new.rename(users)
+
+    def put_by_hand(self, text):
+        """Changes the users file everywhere, as an operator does."""
+        self.by_hand(text)
+        subprocess.run(self.push(), shell=True, check=True)
+
+    # ---- Secrets
+
+    def all_secrets(self):
+        """Returns each text that no log may have: keys, passwords, and the secrets of all files that were pushed."""
+        found = set(self.secrets)
+        for path in [self.desk / "users", *self.folder.glob("members/*/users"), *self.folder.glob("made/*")]:
+            for row in read_rows(path.read_bytes()):
+                secret = bytes.fromhex(row.secret.decode())
+                base32 = base64.b32encode(secret).decode().rstrip("=")
+                found |= {secret.hex(), base32, " ".join(base32[at:at + 4] for at in range(0, len(base32), 4))}
+                found |= {row.password.decode()} - {"-", "+"}
+        return found
+
+    def logs(self):
+        """Returns all logs and records of the site."""
+        names = ["logins", "faults", "error.log", "access.log", "desk/record", *("log.%d" % node for node in NODES)]
+        return [self.folder / name for name in names]
 
     def stop(self, name):
         process = self.processes.pop(name)

@@ -80,7 +80,13 @@ function watchStates(part) {
     again();
 }
 
-for (const [id, begin] of [["q", searchWhileTyping], ["told", watchCluster], ["states", watchStates]]) {
+// A secret is shown once: Back brings a page without it.
+function forget(part) {
+    window.addEventListener("pagehide", () => part.remove());
+}
+
+for (const [id, begin] of [["q", searchWhileTyping], ["told", watchCluster], ["states", watchStates],
+    ["once", forget]]) {
     const found = document.getElementById(id);
     if (found) begin(found);
 }

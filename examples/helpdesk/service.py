@@ -1,0 +1,81 @@
+"""How a site runs: the words that all have, the log of logins, and gunicorn with one process."""
+import argparse
+import logging
+import os
+import sys
+from pathlib import Path
+
+import wakdulg
+from acts import Desk
+from book import Book
+from gunicorn.app.base import BaseApplication
+from gunicorn.workers.gthread import ThreadWorker
+from record import Record
+
+THREADS = 96
+LOG = logging.getLogger("logins")
+
+
+class Worker(ThreadWorker):
+    """A process whose threads wait for ten seconds for what a client sends, and no longer."""
+
+    def handle(self, conn):
+        conn.sock.settimeout(10)
+        return super().handle(conn)
+
+
+class Service(BaseApplication):
+    """gunicorn with one process, since sessions are in its memory. Each connection has one request."""
+
+    def __init__(self, words, make_application):
+        self.words, self.make_application = words, make_application
+        super().__init__()
+
+    def load_config(self):
+        for name, value in {"workers": 1, "worker_class": "service.Worker", "threads": THREADS, "keepalive": 0,
+                            "worker_connections": 2 * THREADS, "backlog": 128, "umask": 0o007, "loglevel": "warning",
+                            "limit_request_line": 2048, "limit_request_fields": 20, "timeout": 300,
+                            "bind": "unix:" + self.words.socket}.items():
+            self.cfg.set(name, value)
+
+    def load(self):
+        return self.make_application(self.words)
+
+
+def oathd():
+    return os.environ.get("OATHD", "oathd")
+
+
+def staff_of(path):
+    """Returns a call that gives the names of staff as the file has them now."""
+    def read():
+        lines = Path(path).read_text().splitlines()
+        return {line.strip() for line in lines if line.strip() and not line.startswith("#")}
+    read()
+    return read
+
+
+def parser_of(usage):
+    parser = argparse.ArgumentParser(usage=usage, allow_abbrev=False)
+    for name in "key-file", "cluster", "users", "staff", "record", "issuer":
+        parser.add_argument("--" + name, required=True)
+    parser.add_argument("--push")
+    parser.add_argument("--patience", type=float, default=8.0)
+    for name in "socket", "origin":
+        parser.add_argument(name)
+    return parser
+
+
+def prepare(words, file, members=None):
+    """Puts into the words what they name: the desk over a cluster file, the record and the log."""
+    pauses = words.patience / 8, words.patience * 5 / 16
+    cluster = wakdulg.Cluster(file.nodes, pauses, words.patience, key=wakdulg.read_key(words.key_file))
+    book = Book(words.users, oathd(), file.keyless, words.push)
+    words.desk = Desk(book, members, cluster, staff_of(words.staff), words.issuer)
+    # The folder of the copy without the key lives as long as the file is kept.
+    words.file, words.record, words.login_log = file, Record(words.record), LOG
+    # A line that can't be written is lost, and holds up no login.
+    logging.raiseExceptions = False
+    LOG.addHandler(logging.StreamHandler(sys.stdout))
+    LOG.setLevel(logging.INFO)
+    LOG.propagate = False
