@@ -112,6 +112,16 @@ class Browser:
     def keys(self, *keys):
         ActionChains(self.driver).send_keys(*keys).perform()
 
+    def tab(self, steps):
+        """Presses TAB so often, backwards if `steps` is negative."""
+        chain = ActionChains(self.driver)
+        if steps < 0:
+            chain.key_down(Keys.SHIFT)
+        chain.send_keys(*[Keys.TAB] * abs(steps))
+        if steps < 0:
+            chain.key_up(Keys.SHIFT)
+        chain.perform()
+
     def tab_to(self, text, what=FOCUSABLE):
         """Moves the focus by TAB to what has this text or label."""
         for _ in range(20):
@@ -120,8 +130,7 @@ class Browser:
                 raise LookupError("nothing has the text %r: %s" % (text, self.text()[:300]))
             if steps == 0:
                 return
-            key = [Keys.TAB] * steps if steps > 0 else [Keys.SHIFT, *[Keys.TAB] * -steps, Keys.NULL]
-            self.keys(*key)
+            self.tab(steps)
         self.by_mouse.append(text)
 
     def leave(self, *keys):
