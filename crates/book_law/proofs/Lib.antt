@@ -9,11 +9,15 @@ pub mod Held
 pub mod Justified
 pub mod Opened
 pub mod Operators
+pub mod Own
+pub mod Parts
 pub mod Recorded
 pub mod Results
 pub mod Served
 pub mod Serving
+pub mod Sizes
 pub mod Stores
+pub mod Stretches
 pub mod Told
 pub mod Under
 pub mod Uses

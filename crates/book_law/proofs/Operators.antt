@@ -122,6 +122,15 @@ module _ (setting : Setting) (e i : ℕ) (terms : Terms) (below : Store) (node :
 
 -- ---- a call of open_gate
 
+-- a machine that runs has the number for the token of its seat
+pub number_of_seat : (terms : Terms) (found : Store) → do_fit terms found ≡ true → (number t : ℕ) → slice_get terms.seats number ≡ Some t → (s : NodeState) → s.running ≡ true → number_to_unlock terms t s ≡ Some number
+number_of_seat terms found fits number t seat s runs =
+    let named : ℕ → Option ℕ = number_of (length terms.seats) (seat_name terms.seats) in
+    let apart = (and_parts (are_apart (length terms.seats) (seat_name terms.seats)) _ (and_parts (eqb (length terms.seats) (length terms.config.book)) _ fits).1).0 in
+    cond-true s.running (named t) None runs
+    ∙ ap named (sym (get_or_from_slice_get terms.seats number t 0 seat))
+    ∙ own_number terms.seats number apart (slice_get_within terms.seats number t seat)
+
 module _ {S A : Type 0} (held : S → Held) (setting : Setting) (e i : ℕ) (terms : Terms) (found : Store) (waiting : List Output) (old new : Hosted S) (number t : ℕ) (result : Result A NodeFault)
     (fits : do_fit terms found ≡ true) (seat : slice_get terms.seats number ≡ Some t) (u : UnlocksNode held old new number result) (clean : (held new.store).is_clean) where
   abbrev before : NodeState
@@ -129,12 +138,7 @@ module _ {S A : Type 0} (held : S → Held) (setting : Setting) (e i : ℕ) (ter
 
   -- a node that runs has the number for the token
   to_unlock : old.running ≡ true → number_to_unlock terms t before ≡ Some number
-  to_unlock runs =
-      let named : ℕ → Option ℕ = number_of (length terms.seats) (seat_name terms.seats) in
-      let apart = (and_parts (are_apart (length terms.seats) (seat_name terms.seats)) _ (and_parts (eqb (length terms.seats) (length terms.config.book)) _ fits).1).0 in
-      cond-true old.running (named t) None runs
-      ∙ ap named (sym (get_or_from_slice_get terms.seats number t 0 seat))
-      ∙ own_number terms.seats number apart (slice_get_within terms.seats number t seat)
+  to_unlock runs = number_of_seat terms found fits number t seat before runs
 
   abbrev acted : Process
   acted = process_after setting e (OpensGate i t) (Up terms found before waiting)

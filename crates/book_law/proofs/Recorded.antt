@@ -2,7 +2,7 @@
 -- belongs to an acceptance.
 use Rattle.std.proofs.Common.{◌≡◌, ℕ, zero, suc, ◌⊎◌, inl, inr, ⊎_elim, Bool, true, false, ◌&&◌, cond, List, [], ◌∷◌, ◌++◌, map, Some, refl, sym, ap, ◌∙◌, subst, eqb, ltb}
 use Rattle.std.specs.List.{slice_get}
-use Rattle.std.proofs.lemmas.Bool.{cond_both, cond-false, eqb-true, ne_eqb}
+use Rattle.std.proofs.lemmas.Bool.{cond_both, eqb-true}
 use Rattle.std.proofs.lemmas.Option.{none-some, same_Some}
 use Rattle.floor_store.specs.Content.{Content}
 use Rattle.vote_core.specs.Schedule.{is_member, last_boot}
@@ -16,27 +16,13 @@ use Rattle.cluster_sim.specs.Answered.{IsOk}
 use Rattle.cluster_sim.specs.World.{Answer, told_reply}
 use Rattle.book_law.specs.Lives.{Action, Opens, FailsToOpen, Takes, Offers, Stops, StopsIn, Loses, Remakes, Enrols, Unlocks, OpensGate, Raises, Output, Process, Sealed, Setting, State, Store, Terms, ToClient, ToPeer, Down, Up, answered_in, answers_among, can_be, do_fit, first_state, has_store, made_by_input, may_enrol, node_of_action, offers_by, outputs_of_step, process_after, process_half_opened, process_opened, sealed_from, seen_in, state_after, state_after_action, state_of, state_with, store_in_next_boot, store_under, store_with_row}
 use Rattle.book_law.specs.Promises.{AnswerTruly}
-use Rattle.book_law.specs.Uses.{OwnOutput, ToClientOwn, ToPeerOwn, AreAllUses, AreOffers, AreOffersOfUses, AreUses, HasUses, IsHistoryOf, IsIdle, IsProcess, IsTrueReply, IsWriting, Serves, StoreUse, TakesAndOffers, Writes, first_store, inputs_at, member_at, named_output, offer_of_output, offers_recorded, own_offers, own_process, run_of, written_store}
+use Rattle.book_law.specs.Uses.{OwnOutput, ToClientOwn, ToPeerOwn, AreAllUses, AreOffers, AreOffersOfUses, AreUses, HasUses, IsHistoryOf, IsProcess, IsTrueReply, IsWriting, Serves, ServesInParts, StoreUse, TakesAndOffers, Writes, entries_in, first_store, inputs_at, member_at, named_output, offer_of_output, offers_recorded, own_offers, own_process, run_of, written_store}
 use Rattle.book_law.proofs.Serving.{LeaveStore, action_at, can_there, serves, store_left}
-use Rattle.book_law.proofs.Uses.{idle_process, number_after, offers_append, opened_is, own_first_offers, uses_leave, writing_node, written_is}
+use Rattle.book_law.proofs.Own.{after_idle_offers, idle_offers, number_after, offers_append, opened_is, own_first_offers}
+use Rattle.book_law.proofs.Parts.{parts_lead}
+use Rattle.book_law.proofs.Uses.{uses_leave, writing_node, written_is}
 
 -- ---- the offers of a node are the recorded ones
-
-idle_offers : (setting : Setting) (node e : ℕ) (ds : List Action) (p : Process) → IsIdle node ds → own_offers setting node e ds p ≡ []
-unfolding own_offers
-idle_offers setting node e [] p idle = refl
-idle_offers setting node e (d ∷ ds) p idle =
-    let b = eqb node (node_of_action d) in
-    let q = cond b (process_after setting e d p) p in
-    ap (λ os. os ++ own_offers setting node (suc e) ds q) (cond-false b (offers_by d p) [] (ne_eqb node (node_of_action d) idle.0))
-    ∙ idle_offers setting node (suc e) ds q idle.1
-
-after_idle_offers : (setting : Setting) (node e : ℕ) (xs ys : List Action) (p : Process) → IsIdle node xs → own_offers setting node e (xs ++ ys) p ≡ own_offers setting node (number_after xs e) ys p
-after_idle_offers setting node e xs ys p idle =
-    let last = number_after xs e in
-    offers_append setting node e xs ys p
-    ∙ ap (λ os. os ++ own_offers setting node last ys (own_process setting node e xs p)) (idle_offers setting node e xs p idle)
-    ∙ ap (λ q. own_offers setting node last ys q) (idle_process setting node e xs p idle)
 
 writing_offers : (node : ℕ) (d : Action) (store : Store) → IsWriting node d → offers_by d (Down store) ≡ []
 writing_offers node (Opens at terms) store w = absurd w
@@ -86,6 +72,15 @@ uses_offer setting node e (Serves terms port taken entries left ∷ uses) store 
       ap (λ l. own_offers setting node e l (Down store)) has.3 ∙ after_idle_offers setting node e has.0 (Opens node terms ∷ has.1 ++ Stops node ∷ has.2) (Down store) has.4 ∙ one.1,
       has.5.offers (suc number),
       uses_offer setting node one.0 uses (store_under terms.seats left store) has.2 are.1 has.6,
+    )
+uses_offer setting node e (ServesInParts terms port parts left ∷ uses) store actions are has =
+    let number = number_after has.0 e in
+    let one = parts_lead setting node terms port store number parts left has.1 has.2 are.0 has.5 in (
+      one.offered,
+      own_offers setting node one.number has.2 (Down (store_under terms.seats left store)),
+      ap (λ l. own_offers setting node e l (Down store)) has.3 ∙ after_idle_offers setting node e has.0 (Opens node terms ∷ has.1 ++ Stops node ∷ has.2) (Down store) has.4 ∙ one.offers,
+      one.are,
+      uses_offer setting node one.number uses (store_under terms.seats left store) has.2 are.1 has.6,
     )
 uses_offer setting node e (Writes d ∷ uses) store actions are has =
     let number = number_after has.0 e in
@@ -343,6 +338,13 @@ recorded_reply (Serves terms port taken entries left ∷ uses) outputs k client 
     (λ (p : IsIn (Offered (ToLine client) bytes) (offers_in entries)). first_reply o.0 o.1 client bytes (use_reply terms port o.0 (offers_in entries) p.0 client bytes o.3 p.1))
     (λ (p : IsIn (Offered (ToLine client) bytes) (offers_recorded uses)). later_reply o.0 o.1 client bytes (recorded_reply uses o.1 p.0 client bytes o.4 p.1))
     (get_either (offers_in entries) (offers_recorded uses) k (Offered (ToLine client) bytes) at))
+recorded_reply (ServesInParts terms port parts left ∷ uses) outputs k client bytes o at =
+    let recorded = offers_in (entries_in parts) in
+    subst (λ os. HasReply os client bytes) (sym o.2)
+    (⊎_elim
+    (λ (p : IsIn (Offered (ToLine client) bytes) recorded). first_reply o.0 o.1 client bytes (use_reply terms port o.0 recorded p.0 client bytes o.3 p.1))
+    (λ (p : IsIn (Offered (ToLine client) bytes) (offers_recorded uses)). later_reply o.0 o.1 client bytes (recorded_reply uses o.1 p.0 client bytes o.4 p.1))
+    (get_either recorded (offers_recorded uses) k (Offered (ToLine client) bytes) at))
 recorded_reply (Writes action ∷ uses) outputs k client bytes o at = recorded_reply uses outputs k client bytes o at
 
 among : (outputs : List Output) (k : ℕ) (answer : Answer) → slice_get outputs k ≡ Some (ToClient answer) → IsIn answer (answers_among outputs)

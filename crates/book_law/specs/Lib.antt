@@ -3,6 +3,8 @@ pub mod Examples
 pub mod Floors
 pub mod Justified
 pub mod Lives
+pub mod PartExamples
 pub mod Promises
 pub mod Results
+pub mod Stretches
 pub mod Uses

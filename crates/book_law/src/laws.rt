@@ -1,7 +1,7 @@
 //! The laws about every history of nodes whose users files, settings and keys change. Floor: the first free factor of a
 //! token at a node.
 
-ghost use Rattle.std.specs.Prelude.{◌≡◌, ◌-◌, ℕ, suc, pos, [], ◌∷◌, ◌++◌, List, false, true, map, Option, Some, None, Result, Ok, ◌⊎◌, codes, slice_get};
+ghost use Rattle.std.specs.Prelude.{◌≡◌, ◌-◌, ℕ, suc, pos, [], ◌∷◌, ◌++◌, List, false, true, map, Option, Some, None, Result, Ok, Err, ◌⊎◌, codes, slice_get};
 ghost use Rattle.admit_core.specs.Throttle.{Accepted as Passed, Failed, SpacesFailures};
 ghost use Rattle.client_lines.specs.declared.answer.Outcome.TheVariants.{Accepted, Refused};
 ghost use Rattle.client_lines.specs.declared.answer.Reason.TheVariants.{Invalid, Unknown};
@@ -34,7 +34,8 @@ ghost use Rattle.book_law.specs.Justified.{IsJustifiedInAction, JustifiesAll, dr
 ghost use Rattle.book_law.specs.Lives.{Action, Down, ToClient, ToPeer, Enrols, FailsToOpen, IsHistory, Loses, Offers, Opens, Output, Raises, Remakes, Setting, Stops, StopsIn, Store, Takes, Terms, Unlocks, OpensGate, Up, accepted_in, answered_in, do_fit, floor_in, floor_of, number_to_unlock, process_after, rows_under, seen_in, state_of, store_at, store_in_next_boot, store_raised, store_under, store_unlocked, store_with_rows};
 ghost use Rattle.book_law.specs.Promises.{AnswerTruly, BelongsToAcceptance, IsAskedInAction, IsSaidInAction};
 ghost use Rattle.book_law.specs.Results.{results_in};
-ghost use Rattle.book_law.specs.Uses.{AreAllUses, AreOffersOfUses, AreServing, AreUses, HasHistory, HasUses, IsHistoryOf, IsProcess, IsSeatedMember, IsTrueReply, Serves as ServesStore, StoreUse, TakesAndOffers, ToClientOwn, ToPeerOwn, WasProcess, Writes, first_store, inputs_at, named_output, offer_of_output, offers_recorded, own_offers, own_process, store_after};
+ghost use Rattle.book_law.specs.Stretches.{ActsAs, AreServed, Stretch, token_cleared, tokens_cleared};
+ghost use Rattle.book_law.specs.Uses.{AreAllUses, AreOffersOfUses, AreServing, AreUses, HasHistory, HasUses, IsHistoryOf, IsProcess, IsSeatedMember, IsTrueReply, Serves as ServesStore, StoreUse, TakesAndOffers, ToClientOwn, ToPeerOwn, WasProcess, WasProcessIn, Writes, first_store, inputs_at, named_output, offer_of_output, offers_recorded, own_offers, own_process, store_after};
 
 use admit_core::{failures_are_spaced, gate_keeps_throttle};
 use floor_store::FloorStore;
@@ -115,6 +116,38 @@ pub fn opened_gates_are_actions<S: FloorStore, A>()
         ⊎ (process_after setting event (OpensGate place token)
         (Up terms found (machine_of (seated_held S.held) old) waiting)
         ≡ Up terms found (record (machine_of (seated_held S.held) old) { content = content }) waiting) }
+{}
+
+/// Stretches: over any store, a process that `run_turns` served in stretches is a use in parts.
+///
+/// Operators may have had it clear gates between the stretches. It has one part for each stretch, and one for the last
+/// turns.
+pub fn stretches_are_processes<S: FloorStore>()
+    ensures turns { (setting : Setting) (place : ℕ) (terms : Terms) (port : List ℕ) (found : Store)
+        (store : SeatedRecord S) (old from new : Hosted (SeatedRecord S)) (stretches : List (Stretch (SeatedRecord S)))
+        (first : Option (List PortEvent)) (entries : List PortEvent) (asked told : Option (List (Option ℕ)))
+        (turns : ℕ) (result : Result Served ServeFault) (content : Content)
+        → IsSeatedMember S.held setting place terms port found store old → IsOpened (seated_held S.held) store old
+        → (seated_held S.held old.store).is_clean → IsCount (seated_held S.held old.store).content.boot
+        → AreServed (seated_held S.held) old (Some []) stretches from first
+        → ServesTurns (seated_held S.held) from new first (Some entries) asked told turns result
+        → (seated_held S.held new.store).is_clean → (seated_held S.held new.store).leaves content
+        → WasProcessIn setting place terms port found (tokens_cleared terms stretches (None ∷ [])) entries content }
+    // If the last act fails, or a stop cuts it off, its gate is cleared or not.
+    ensures act { (setting : Setting) (place : ℕ) (terms : Terms) (port : List ℕ) (found : Store)
+        (store : SeatedRecord S) (old from stood new : Hosted (SeatedRecord S))
+        (stretches : List (Stretch (SeatedRecord S))) (first : Option (List PortEvent)) (entries : List PortEvent)
+        (asked told : Option (List (Option ℕ))) (turns : ℕ) (served : Served) (unlocked : Option ℕ)
+        (fault : NodeFault) (content : Content)
+        → IsSeatedMember S.held setting place terms port found store old → IsOpened (seated_held S.held) store old
+        → (seated_held S.held old.store).is_clean → IsCount (seated_held S.held old.store).content.boot
+        → AreServed (seated_held S.held) old (Some []) stretches from first
+        → ServesTurns (seated_held S.held) from stood first (Some entries) asked told turns (Ok served)
+        → ActsAs (seated_held S.held) unlocked stood new (Err fault)
+        → (seated_held S.held new.store).is_clean → (seated_held S.held new.store).leaves content
+        → WasProcessIn setting place terms port found (tokens_cleared terms stretches (None ∷ [])) entries content
+        ⊎ WasProcessIn setting place terms port found (tokens_cleared terms stretches
+        (token_cleared terms unlocked ∷ [])) entries content }
 {}
 
 /// One history: the processes and commands of all nodes, each on what the one before it left, have a history.

@@ -11,13 +11,13 @@ use Rattle.named_port.specs.Runs.{Has, below_events, handed_events}
 use Rattle.named_port.specs.Translator.{TranslatorRecord, after_event, handed_in, offered}
 use Rattle.named_port.proofs.RunLemmas.{keeps_event}
 use Rattle.oath_node.specs.Hosted.{envelope_at}
-use Rattle.oath_node.specs.Machine.{NodeEvent, Client, Peer, Tick}
+use Rattle.oath_node.specs.Machine.{NodeEvent, NodeState, Client, Peer, Tick, opened_node}
 use Rattle.oath_node.specs.Turns.{Receipt, FromPeer, FromClient, Nothing, Failure, entry_of, events_of_turn, events_of_turns, is_receive, offers_in, received_with, tick_at}
 use Rattle.vote_core.proofs.Basics.{Each, each_append, each_filter, each_get}
 use Rattle.vote_core.specs.Schedule.{Envelope}
 use Rattle.vote_wire.specs.Key.{bare}
-use Rattle.book_law.specs.Lives.{Output, Setting, Store, Terms}
-use Rattle.book_law.specs.Uses.{IsProcess, OwnOutput, ToClientOwn, ToPeerOwn, offer_of_output}
+use Rattle.book_law.specs.Lives.{Output, Setting, Store, Terms, seen_in}
+use Rattle.book_law.specs.Uses.{AreParts, IsPart, IsProcess, IsProcessIn, OwnOutput, Part, ToClientOwn, ToPeerOwn, entries_in, offer_of_output, state_after_part}
 use Rattle.name_law.specs.Datagrams.{IsTranslatorOf, handed_bytes}
 use Rattle.name_law.specs.Ports.{AreSeated, ReadsEvent, first_translator, named_offer}
 use Rattle.name_law.specs.Unforged.{ReadsOffered, TellsVote, WereOffered}
@@ -111,6 +111,37 @@ inputs_law names setting node terms boot found taken calls left is place from re
     let receipts = each_entry names node terms calls is.receipts (subst (λ l. Each (EventCame names node terms calls) l) (sym is.received) entries) in
     let all = subst (λ l. Each (InputCame names node terms calls) l) is.events (turns_came names node terms calls 0 is.receipts receipts) in
     each_get (InputCame names node terms calls) taken place (Peer from read) (each_front (InputCame names node terms calls) taken is.later all) at
+
+each_rest : {A : Type 0} (P : A → Type 0) (xs ys : List A) → Each P (xs ++ ys) → Each P ys
+each_rest P [] ys h = h
+each_rest P (x ∷ xs) ys h = each_rest P xs ys h.1
+
+module _ (names : List (List ℕ)) (setting : Setting) (node : ℕ) (terms : Terms) (calls : List PortEvent) where
+  abbrev came : PortEvent → Type 0
+  came entry = EventCame names node terms calls entry
+
+  part_came : (s : NodeState) (part : Part) (parts : List Part) → IsPart setting node terms bare s part parts → Each came part.entries → Each (InputCame names node terms calls) part.taken
+  part_came s part parts is h =
+      let receives = each_filter came is_receive part.entries h in
+      let receipts = each_entry names node terms calls is.receipts (subst (λ l. Each came l) (sym is.received) receives) in
+      let all = subst (λ l. Each (InputCame names node terms calls) l) is.events (turns_came names node terms calls 0 is.receipts receipts) in
+      each_front (InputCame names node terms calls) part.taken is.later all
+
+  parts_came : (s : NodeState) (parts : List Part) (left : Content) → AreParts setting node terms bare s parts left → Each came (entries_in parts) → Each (λ (part : Part). Each (InputCame names node terms calls) part.taken) parts
+  parts_came s [] left are h = tt
+  parts_came s (part ∷ parts) left are h = (
+    part_came s part parts are.0 (each_front came part.entries (entries_in parts) h),
+    parts_came (state_after_part setting node terms bare s part) parts left are.1 (each_rest came part.entries (entries_in parts) h),
+  )
+
+pub inputs_in_parts_law : (names : List (List ℕ)) (setting : Setting) (node : ℕ) (terms : Terms) (boot : ℕ) (found : Store) (parts : List Part) (calls : List PortEvent) (left : Content)
+    → IsProcessIn setting node terms bare found parts left → entries_in parts ≡ handed_events (first_translator names node terms boot) calls
+    → (i place from : ℕ) (part : Part) (read : Option Envelope) → slice_get parts i ≡ Some part → slice_get part.taken place ≡ Some (Peer from read) → ReadsEvent names node terms calls from read
+inputs_in_parts_law names setting node terms boot found parts calls left is entries i place from part read there at =
+    let handed = all_came names node terms (first_translator names node terms boot) calls (is_first names node terms boot) in
+    let all = parts_came names setting node terms calls (opened_node (seen_in found terms.seats)) parts left is.are (subst (λ l. Each (EventCame names node terms calls) l) (sym entries) handed) in
+    let one = each_get (λ (x : Part). Each (InputCame names node terms calls) x.taken) parts i part all there in
+    each_get (InputCame names node terms calls) part.taken place (Peer from read) one at
 
 -- what was offered before, byte for byte, is unforged
 pub reads_law : (names : List (List ℕ)) (node : ℕ) (terms : Terms) (calls : List PortEvent) (offered : List Output) (from : ℕ) (read : Option Envelope) → ReadsEvent names node terms calls from read

@@ -26,7 +26,7 @@ ghost use Rattle.book_law.specs.Justified.{JustifiesAll};
 ghost use Rattle.book_law.specs.Lives.{Action, IsHistory, Output, Sealed, Setting, Store, Terms, accepted_in, answered_in, floor_in, named_envelope};
 ghost use Rattle.book_law.specs.Promises.{AnswerTruly};
 ghost use Rattle.book_law.specs.Results.{results_in};
-ghost use Rattle.book_law.specs.Uses.{IsProcess, OwnOutput, offer_of_output};
+ghost use Rattle.book_law.specs.Uses.{IsProcess, IsProcessIn, OwnOutput, Part, entries_in, offer_of_output};
 ghost use Rattle.name_law.specs.Datagrams.{IsReadable, IsSpelled, IsTranslatorOf, bytes_for, named_datagram, numbered_envelope, own_datagram, own_number};
 ghost use Rattle.name_law.specs.Ports.{AreSeated, ReadsEvent, first_translator, named_offer};
 ghost use Rattle.name_law.specs.Stores.{KeepsOthers, LeavesUnder};
@@ -88,6 +88,13 @@ pub fn named_ports_tell_envelopes()
         (handed_events (first_translator names node terms boot) calls) left
         → (place from : ℕ) (read : Option Envelope) → slice_get taken place ≡ Some (Peer from read)
         → ReadsEvent names node terms calls from read }
+    // The same holds of each part of a process in parts.
+    ensures inputs_in_parts { (names : List (List ℕ)) (setting : Setting) (node boot : ℕ) (terms : Terms)
+        (found : Store) (parts : List Part) (calls : List PortEvent) (left : Content)
+        → IsProcessIn setting node terms bare found parts left
+        → entries_in parts ≡ handed_events (first_translator names node terms boot) calls
+        → (i place from : ℕ) (part : Part) (read : Option Envelope) → slice_get parts i ≡ Some part
+        → slice_get part.taken place ≡ Some (Peer from read) → ReadsEvent names node terms calls from read }
     // It is unforged if all bytes from the member's address that tell a vote were offered before.
     ensures reads { (names : List (List ℕ)) (node from : ℕ) (terms : Terms) (calls : List PortEvent)
         (offered : List Output) (read : Option Envelope) → ReadsEvent names node terms calls from read

@@ -1,10 +1,14 @@
 -- Each clause is a lemma.
 use Rattle.name_law.proofs.Datagrams.{is_vote}
-use Rattle.name_law.proofs.Ports.{inputs_law, offers_law, reads_law}
+use Rattle.name_law.proofs.Ports.{inputs_in_parts_law, inputs_law, offers_law, reads_law}
 use Rattle.name_law.proofs.laws.named_ports_tell_envelopes.Goals as goal
 
 pub returns-clause-inputs : goal.returns-clause-inputs
 returns-clause-inputs c = λ names setting node boot terms found taken calls left is place from read at. inputs_law names setting node terms boot found taken calls left is place from read at
+
+pub returns-clause-inputs_in_parts : goal.returns-clause-inputs_in_parts
+returns-clause-inputs_in_parts c = λ names setting node boot terms found parts calls left is entries i place from part read there at.
+    inputs_in_parts_law names setting node terms boot found parts calls left is entries i place from part read there at
 
 pub returns-clause-reads : goal.returns-clause-reads
 returns-clause-reads c = λ names node from terms calls offered read r h. reads_law names node terms calls offered from read r h

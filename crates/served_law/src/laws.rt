@@ -1,0 +1,101 @@
+//! The laws about stores that are opened by names, and about nodes that are served over them.
+
+ghost use Rattle.std.specs.Prelude.{◌≡◌, ℕ, List, Result, length};
+ghost use Rattle.sqlite.specs.Held.{state};
+ghost use Rattle.sqlite.specs.State.{HasCleanDisk};
+ghost use Rattle.otp_core.specs.Limits.{Limits};
+ghost use Rattle.token_file.specs.Credential.{Credential};
+ghost use Rattle.token_names.specs.Names.{names_of};
+ghost use Rattle.floor_sql.specs.Held.{SqlHeld, sql_held};
+ghost use Rattle.roster_sql.specs.Roster.{BondRecord};
+ghost use Rattle.roster_sql.specs.declared.entry.Entry.{Entry};
+ghost use Rattle.seated_store.specs.Seated.{SeatedRecord};
+ghost use Rattle.named_port.specs.Translator.{new_translator};
+ghost use Rattle.named_store.specs.declared.opening.RowCounts.{RowCounts};
+ghost use Rattle.oath_node.specs.declared.turns.Served.{Served};
+ghost use Rattle.vote_wire.specs.Key.{bare};
+ghost use Rattle.oathd_database.specs.NodeKey.{tag_key};
+ghost use Rattle.oathd_database.specs.Stretches.{unasked};
+ghost use Rattle.oathd_database.specs.declared.fault.Fault.{Fault};
+ghost use Rattle.oathd_database.specs.declared.serving.Serving.{Serving};
+ghost use Rattle.oathd_roster.specs.Opened.{HasOpenedNamed};
+ghost use Rattle.oathd_roster.specs.Served.{HasServedNamed};
+ghost use Rattle.oathd_roster.specs.declared.cluster.NamedCluster.{NamedCluster};
+ghost use Rattle.book_law.specs.Lives.{Setting, Terms};
+ghost use Rattle.book_law.specs.Uses.{IsSeatedMember};
+ghost use Rattle.name_law.specs.Ports.{first_translator};
+ghost use Rattle.served_law.specs.Enrolled.{IsEnrolledFrom};
+ghost use Rattle.served_law.specs.Seated.{HasKnownRows, HasRows, IsSeatedStore, served_terms, store_by_names, tokens_of};
+
+use oathd_database::{Database, Stop};
+use sqlite::Alter;
+
+/// Rows: the tables of a store that is opened by names have its content and one list of rows.
+pub fn opened_names_have_rows<S: Alter + Drop, D: Database<S>>()
+    ensures some { (cluster : NamedCluster) (limits : Limits) (moment node : ℕ) (book : List Credential)
+        (floors : List ℕ) (store : SeatedRecord (SqlHeld S)) (counts : RowCounts)
+        → HasOpenedNamed S.Store D.finds cluster limits moment node book floors store counts
+        → HasCleanDisk (state S.Store store.inner.conn)
+        → (rows : List Entry) × HasRows S.Store cluster.bond store.inner rows }
+    ensures one { (own other : BondRecord) (store : SqlHeld S) (rows others : List Entry)
+        → HasRows S.Store own store rows → HasRows S.Store other store others → rows ≡ others }
+{}
+
+/// Seats: a store that is opened by names is a store of a history, in which each row has the token of its name.
+///
+/// The tokens of the users file have the same seats in both. `names` are the names of all canonical tokens, and the name
+/// of each row is among them.
+pub fn opened_names_are_seated<S: Alter + Drop, D: Database<S>>()
+    ensures { (cluster : NamedCluster) (limits : Limits) (moment node : ℕ) (book : List Credential) (floors : List ℕ)
+        (store : SeatedRecord (SqlHeld S)) (counts : RowCounts) (names : List (List ℕ)) (rows : List Entry)
+        (terms : Terms) → HasOpenedNamed S.Store D.finds cluster limits moment node book floors store counts
+        → HasKnownRows S.Store cluster.bond names store.inner rows
+        → terms.config.book ≡ book → terms.seats ≡ tokens_of names (names_of cluster.salt book)
+        → IsSeatedStore (sql_held S.Store) terms (store_by_names names rows store.inner.mirror) store }
+{}
+
+/// Enrolments: the rows that an opening by names adds are enrolments of the history.
+///
+/// They come before the process. So the process finds what the use before it left, followed by these rows.
+pub fn opened_names_are_enrolled<S: Alter + Drop, D: Database<S>>()
+    ensures { (cluster : NamedCluster) (limits : Limits) (moment node : ℕ) (book : List Credential) (floors : List ℕ)
+        (store : SeatedRecord (SqlHeld S)) (counts : RowCounts) (names : List (List ℕ)) (rows : List Entry)
+        (setting : Setting)
+        (opened : HasOpenedNamed S.Store D.finds cluster limits moment node book floors store counts)
+        → HasKnownRows S.Store cluster.bond names store.inner rows → setting.tokens ≡ length names
+        → IsEnrolledFrom S.Store setting node cluster.bond names opened.conn store.inner rows }
+{}
+
+/// Processes: a node that `oathd` opened over a store by names is a member of a history over that store.
+///
+/// `served_nodes_are_processes` asks this of a node before its turns.
+pub fn served_names_are_seated<S: Alter + Drop, D: Database<S>, U: Stop>()
+    ensures served { (cluster : NamedCluster) (moment : ℕ) (serving : Serving) (until : U)
+        (result : Result Served Fault) (text : List ℕ) (names : List (List ℕ)) (rows : List Entry) (setting : Setting)
+        (run : HasServedNamed S.Store D.finds cluster moment serving (U.answers until) result text)
+        → HasKnownRows S.Store cluster.bond names run.found.inner rows → setting.n ≡ serving.place.n
+        → IsSeatedMember (sql_held S.Store) setting serving.place.me
+        (served_terms names cluster serving run.import.book) bare
+        (store_by_names names rows run.found.inner.mirror) run.found run.first }
+    // The same if the command ended with a fault.
+    ensures failed { (cluster : NamedCluster) (moment : ℕ) (serving : Serving)
+        (result : Result Served Fault) (text : List ℕ) (names : List (List ℕ)) (rows : List Entry) (setting : Setting)
+        (run : HasServedNamed S.Store D.finds cluster moment serving unasked result text)
+        → HasKnownRows S.Store cluster.bond names run.found.inner rows → setting.n ≡ serving.place.n
+        → IsSeatedMember (sql_held S.Store) setting serving.place.me
+        (served_terms names cluster serving run.import.book) bare
+        (store_by_names names rows run.found.inner.mirror) run.found run.first }
+{}
+
+/// Translators: the translator of a node that is served by names is the one of its process in that history.
+///
+/// So `named_ports_tell_envelopes` says which envelopes its datagrams tell.
+pub fn named_translators_are_first<S: Alter + Drop, D: Database<S>>()
+    ensures { (cluster : NamedCluster) (moment node : ℕ) (serving : Serving) (book : List Credential)
+        (floors : List ℕ) (store : SeatedRecord (SqlHeld S)) (counts : RowCounts) (names : List (List ℕ))
+        (rows : List Entry) (boot : ℕ)
+        → HasOpenedNamed S.Store D.finds cluster serving.settings moment node book floors store counts
+        → HasKnownRows S.Store cluster.bond names store.inner rows
+        → new_translator (tag_key serving.key book) (names_of cluster.salt book) node boot
+        ≡ first_translator names node (served_terms names cluster serving book) boot }
+{}

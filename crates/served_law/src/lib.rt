@@ -1,0 +1,15 @@
+//! The laws that join the stores that `oathd` opens by names to the stores of histories.
+//!
+//! In a history, all nodes have the same numbers for tokens: the places of their names in one list. A store that is
+//! opened by names has a row for each name that it ever enrolled. The laws say which store of a history it is, and that
+//! a node that is served over it is a member of that history. `book_law` and `name_law` have the histories.
+#![tactic(auto)]
+
+mod laws;
+mod worked;
+
+pub use laws::{
+    named_translators_are_first, opened_names_are_enrolled, opened_names_are_seated,
+    opened_names_have_rows, served_names_are_seated,
+};
+pub use worked::{enrolments_are_worked, rows_are_worked, rows_can_be_broken};
