@@ -194,9 +194,7 @@ class Test:
         rows = ["HOTP/T30 user%05d.%s - %040x\n" % (n, "abcdefgh"[n % 8] * 6, n) for n in range(1, 10001)]
         self.site.by_hand(before + "".join(rows))
         for path in "/search.json?q=", "/?q=":
-            # Other work on the machine may take the processors for a while, so there are three tries.
-            is_fast = any(self.median(path, texts) < 100 for _ in range(3))
-            expect("the median of %s is below 100 ms" % path, is_fast, True)
+            expect("the median of %s is below 100 ms" % path, self.median(path, texts) < 100, True)
         self.type_a_search()
         self.site.by_hand(before)
 
@@ -238,7 +236,7 @@ class Test:
         plain, sealed = ([moment - begin for moment in told[form]] for form in ("plain", "sealed"))
         print("seconds from the click until the users file is copied: %.1f; until members 1, 2, 3 accept a plain code: "
               "%s; a sealed one: %s" % (max(copied), listed(plain), listed(sealed)))
-        expect("a plain code gets in at each member within five seconds", max(plain) <= 5, True)
+        expect("a code gets in at each member within five seconds", max(plain + sealed) <= 5, True)
 
     def markup(self):
         """Names with markup in each place where a page shows one."""
