@@ -16,7 +16,7 @@ use std::rt::Files;
 use std::time::Clock as TimeSource;
 
 /// The number of milliseconds from one look at the file to the next.
-const LOOK_MILLIS: u64 = 1000;
+const LOOK_MILLIS: u64 = 500;
 
 /// The maximum number of milliseconds for which a found change waits for the lines that wait for votes, and for the
 /// time of the member.
