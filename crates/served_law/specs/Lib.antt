@@ -1,3 +1,6 @@
 pub mod Seated
 pub mod Enrolled
+pub mod Processes
+pub mod Runs
 pub mod Examples
+pub mod RunExamples

@@ -1,18 +1,21 @@
 //! The laws about stores that are opened by names, and about nodes that are served over them.
 
-ghost use Rattle.std.specs.Prelude.{◌≡◌, ℕ, List, Result, length};
+ghost use Rattle.std.specs.Prelude.{◌≡◌, ℕ, List, Option, Some, Result, length, slice_get};
 ghost use Rattle.sqlite.specs.Held.{state};
 ghost use Rattle.sqlite.specs.State.{HasCleanDisk};
 ghost use Rattle.otp_core.specs.Limits.{Limits};
 ghost use Rattle.token_file.specs.Credential.{Credential};
 ghost use Rattle.token_names.specs.Names.{names_of};
+ghost use Rattle.floor_store.specs.Content.{Content};
 ghost use Rattle.floor_sql.specs.Held.{SqlHeld, sql_held};
 ghost use Rattle.roster_sql.specs.Roster.{BondRecord};
 ghost use Rattle.roster_sql.specs.declared.entry.Entry.{Entry};
 ghost use Rattle.seated_store.specs.Seated.{SeatedRecord};
 ghost use Rattle.named_port.specs.Translator.{new_translator};
 ghost use Rattle.named_store.specs.declared.opening.RowCounts.{RowCounts};
+ghost use Rattle.oath_node.specs.Machine.{Peer};
 ghost use Rattle.oath_node.specs.declared.turns.Served.{Served};
+ghost use Rattle.vote_core.specs.Schedule.{Envelope};
 ghost use Rattle.vote_wire.specs.Key.{bare};
 ghost use Rattle.oathd_database.specs.NodeKey.{tag_key};
 ghost use Rattle.oathd_database.specs.Stretches.{unasked};
@@ -21,12 +24,15 @@ ghost use Rattle.oathd_database.specs.declared.serving.Serving.{Serving};
 ghost use Rattle.oathd_roster.specs.Opened.{HasOpenedNamed};
 ghost use Rattle.oathd_roster.specs.Served.{HasServedNamed};
 ghost use Rattle.oathd_roster.specs.declared.cluster.NamedCluster.{NamedCluster};
-ghost use Rattle.book_law.specs.Lives.{Setting, Terms};
-ghost use Rattle.book_law.specs.Uses.{IsSeatedMember};
-ghost use Rattle.name_law.specs.Ports.{first_translator};
+ghost use Rattle.book_law.specs.Lives.{Setting, Store, Terms};
+ghost use Rattle.book_law.specs.Uses.{IsSeatedMember, Part};
+ghost use Rattle.name_law.specs.Ports.{ReadsEvent, first_translator};
 ghost use Rattle.served_law.specs.Enrolled.{IsEnrolledFrom};
+ghost use Rattle.served_law.specs.Runs.{AreAllNamedUses, AreNamedUses, HasNamedHistory, HasUsesOf, IsOneUse, IsSound, NamedUse, terms_in, view_of};
 ghost use Rattle.served_law.specs.Seated.{HasKnownRows, HasRows, IsSeatedStore, served_terms, store_by_names, tokens_of};
 
+use book_law::uses_make_histories;
+use name_law::named_ports_tell_envelopes;
 use oathd_database::{Database, Stop};
 use sqlite::Alter;
 
@@ -99,3 +105,49 @@ pub fn named_translators_are_first<S: Alter + Drop, D: Database<S>>()
         → new_translator (tag_key serving.key book) (names_of cluster.salt book) node boot
         ≡ first_translator names node (served_terms names cluster serving book) boot }
 {}
+
+/// Runs: the whole run of a command that serves a node by names is one use of its store in a history.
+///
+/// It is a process in parts. Between two of them an operator may have had it unlock a token. That the rows without a
+/// token of the users file stay is said call by call (`seated_stores_keep_other_rows`). No clause says how the events
+/// that came to the translator came through the ports below it, which also take floors in bulk.
+pub fn served_names_are_processes<S: Alter + Drop, D: Database<S>, U: Stop>()
+    ensures served { (cluster : NamedCluster) (moment : ℕ) (serving : Serving) (until : U)
+        (result : Result Served Fault) (text : List ℕ) (names : List (List ℕ)) (rows : List Entry) (setting : Setting)
+        (left : Content)
+        (run : HasServedNamed S.Store D.finds cluster moment serving (U.answers until) result text)
+        → IsSound run setting names rows → (view_of S.Store run.last.store).leaves left
+        → IsOneUse run setting names rows left }
+    // The same if the command ended with a fault.
+    ensures failed { (cluster : NamedCluster) (moment : ℕ) (serving : Serving)
+        (result : Result Served Fault) (text : List ℕ) (names : List (List ℕ)) (rows : List Entry) (setting : Setting)
+        (left : Content) (run : HasServedNamed S.Store D.finds cluster moment serving unasked result text)
+        → IsSound run setting names rows → (view_of S.Store run.last.store).leaves left
+        → IsOneUse run setting names rows left }
+    // Each input from a member's address is what the translator handed in for one of the events that came to it.
+    ensures inputs { (cluster : NamedCluster) (moment : ℕ) (serving : Serving) (until : U)
+        (result : Result Served Fault) (text : List ℕ) (names : List (List ℕ)) (rows : List Entry) (setting : Setting)
+        (left : Content)
+        (run : HasServedNamed S.Store D.finds cluster moment serving (U.answers until) result text)
+        (one : IsOneUse run setting names rows left) (i place from : ℕ) (part : Part) (read : Option Envelope)
+        → slice_get one.was.parts i ≡ Some part → slice_get part.taken place ≡ Some (Peer from read)
+        → ReadsEvent names serving.place.me (terms_in run names) run.served_is.serves.calls from read }
+{
+    named_ports_tell_envelopes();
+}
+
+/// Histories: all runs by names over the members' stores have one history of `book_law`, with any commands between them.
+///
+/// Each run finds what the use before it left, and gives the store its new rows by enrolments. The promises of
+/// `books_are_safe` hold of the history if no vote is forged in it.
+pub fn served_names_make_histories<S: Alter + Drop, D: Database<S>, U: Stop>()
+    ensures uses { (setting : Setting) (node : ℕ) (names : List (List ℕ)) (store : Store) (named : List (NamedUse U))
+        (are : AreNamedUses S.Store D.finds U.answers setting node names store named)
+        → setting.tokens ≡ length names
+        → HasUsesOf S.Store D.finds U.answers setting node names store named are }
+    ensures history { (setting : Setting) (names : List (List ℕ)) (named : ℕ → List (NamedUse U))
+        (are : AreAllNamedUses S.Store D.finds U.answers setting names named) → setting.tokens ≡ length names
+        → HasNamedHistory S.Store D.finds U.answers setting names named are }
+{
+    uses_make_histories();
+}

@@ -1,0 +1,161 @@
+-- The runs of commands that serve nodes by names, as uses of their stores in a history.
+use Rattle.std.specs.Prelude.{◌≡◌, ℕ, Bool, List, [], ◌∷◌, ◌++◌, Option, Some, None, Result}
+use Rattle.sqlite.specs.Store.{Ghosts}
+use Rattle.sqlite.specs.Held as sql
+use Rattle.datagram_port.specs.Port.{PortEvent}
+use Rattle.floor_store.specs.Content.{Content}
+use Rattle.floor_store.specs.Held.{Held}
+use Rattle.floor_store.specs.Range.{IsCount}
+use Rattle.floor_store.specs.Records.{PassRecord}
+use Rattle.floor_sql.specs.Held.{SqlHeld, sql_held}
+use Rattle.roster_sql.specs.Roster.{BondRecord, HoldsNamed}
+use Rattle.roster_sql.specs.declared.entry.Entry.{Entry}
+use Rattle.seated_store.specs.Seated.{SeatedRecord, seated_held}
+use Rattle.named_port.specs.Runs.{handed_events}
+use Rattle.oath_node.specs.declared.turns.Served.{Served}
+use Rattle.vote_wire.specs.Key.{bare}
+use Rattle.oathd_database.specs.Stretches.{unasked}
+use Rattle.oathd_database.specs.declared.fault.Fault.{Fault}
+use Rattle.oathd_database.specs.declared.serving.Serving.{Serving}
+use Rattle.oathd_roster.specs.Served.{HasServedNamed}
+use Rattle.oathd_roster.specs.declared.cluster.NamedCluster.{NamedCluster}
+use Rattle.book_law.specs.Lives.{Action, Setting, Store, Terms, store_under}
+use Rattle.book_law.specs.Uses.{AreAllUses, AreUses, HasHistory, IsWriting, Part, ServesInParts, StoreUse, Writes, entries_in, first_store, written_store}
+use Rattle.name_law.specs.Ports.{first_translator}
+use Rattle.served_law.specs.Enrolled.{enrolments}
+use Rattle.served_law.specs.Processes.{IsUse, StaysClean}
+use Rattle.served_law.specs.Seated.{HasKnownRows, served_terms, store_by_names}
+
+-- the view of a store by names
+abbrev pub view_of : {S : Type 0} → Ghosts S → SeatedRecord (SqlHeld S) → Held
+view_of g = seated_held (sql_held g)
+
+-- ---- One run
+
+module _ {S : Type 0} {g : Ghosts S} {finds : sql.Held S → Type 0} {cluster : NamedCluster} {moment : ℕ}
+    {serving : Serving} {answers : ℕ → Bool → Bool → Type 0} {result : Result Served Fault} {text : List ℕ}
+    (run : HasServedNamed g finds cluster moment serving answers result text) where
+  -- the store that the run found, as one of a history
+  abbrev pub store_found : List (List ℕ) → List Entry → Store
+  store_found names rows = store_by_names names rows run.found.inner.mirror
+
+  -- the terms of the process
+  abbrev pub terms_in : List (List ℕ) → Terms
+  terms_in names = served_terms names cluster serving run.import.book
+
+  -- what the process received, and what it offered, by its own numbers
+  abbrev pub entries_of : List (List ℕ) → List PortEvent
+  entries_of names =
+      handed_events (first_translator names serving.place.me (terms_in names) run.boot) run.served_is.serves.calls
+
+  -- What a history asks of the run. The rows of the store that it found are known, and its members are the setting's.
+  -- The database's disk was clean at the start of each stretch of turns and at the end, and its boot is in range.
+  pub record IsSound (setting : Setting) (names : List (List ℕ)) (rows : List Entry) : Type 0 where
+    pub known : HasKnownRows g cluster.bond names run.found.inner rows
+    pub members : setting.n ≡ serving.place.n
+    pub stays : StaysClean (view_of g) run.served_is.serves.serves
+    pub boot : IsCount run.boot
+
+  -- the run is one use of the store that it found, and a stop left `left` of its tokens
+  abbrev pub IsOneUse : Setting → List (List ℕ) → List Entry → Content → Type 0
+  IsOneUse setting names rows left =
+      IsUse (view_of g) run.served_is.serves.serves setting serving.place.me (terms_in names) bare
+      (store_found names rows) (entries_of names) left
+
+-- ---- All runs over one store
+
+-- A run of a command, the rows of its store, and what a stop left of its tokens. `until` answered whether its turns end,
+-- unless the command ended with a fault.
+pub record NamedRun (U : Type 0) : Type 0 where
+  pub cluster : NamedCluster
+  pub moment : ℕ
+  pub serving : Serving
+  pub until : Option U
+  pub result : Result Served Fault
+  pub text : List ℕ
+  pub rows : List Entry
+  pub left : Content
+
+-- what is known of the answers of a run
+abbrev pub answers_of : {U : Type 0} → (U → ℕ → Bool → Bool → Type 0) → Option U → ℕ → Bool → Bool → Type 0
+answers_of answers None = unasked
+answers_of answers (Some until) = answers until
+
+-- A use of a member's store: a run by names, or a writing action of a history without a process.
+pub data NamedUse (U : Type 0) : Type 0 where
+  RunsBy : (run : NamedRun U) → NamedUse U
+  WritesBy : (action : Action) → NamedUse U
+
+-- The tables of a connection hold the store of a history, whatever content and rows these are.
+abbrev pub HoldsStore :
+    {S : Type 0} → Ghosts S → BondRecord → List (List ℕ) → sql.Held S → Store → Type 0
+HoldsStore g own names conn store = (content : Content) (passes : List PassRecord) (former : List Entry)
+    → HoldsNamed (sql.state g conn).now content passes former own → store_by_names names former content ≡ store
+
+module _ {S U : Type 0} (g : Ghosts S) (finds : sql.Held S → Type 0) (answers : U → ℕ → Bool → Bool → Type 0)
+    (setting : Setting) (node : ℕ) (names : List (List ℕ)) where
+  -- The node made the run. Before its new rows, the tables held the store of a history.
+  pub record IsRunOver (store : Store) (run : NamedRun U) : Type 0 where
+    pub served : HasServedNamed g finds run.cluster run.moment run.serving (answers_of answers run.until) run.result
+        run.text
+    pub of_node : run.serving.place.me ≡ node
+    pub sound : IsSound served setting names run.rows
+    pub holds : HoldsStore g run.cluster.bond names served.opened.conn store
+    pub leaves : (view_of g served.last.store).leaves run.left
+
+  -- the store of a history after the run: the rows without a token of the users file are the ones that the run found
+  abbrev pub store_left : (store : Store) (run : NamedRun U) → IsRunOver store run → Store
+  store_left store run is =
+      store_under (terms_in is.served names).seats run.left (store_found is.served names run.rows)
+
+  -- the uses of the store in order, each on what the one before it left
+  abbrev pub AreNamedUses : Store → List (NamedUse U) → Type 0
+  AreNamedUses store [] = Unit {0}
+  AreNamedUses store (RunsBy run ∷ later) =
+      (is : IsRunOver store run) × AreNamedUses (store_left store run is) later
+  AreNamedUses store (WritesBy action ∷ later) =
+      IsWriting node action × AreNamedUses (written_store setting action store) later
+
+  -- The uses of a history are the run: the enrolments of its new rows, and its process in parts. The port of the
+  -- process recorded what the run received and offered.
+  pub record AreOfRun (store : Store) (run : NamedRun U) (is : IsRunOver store run) (uses : List StoreUse)
+      : Type 0 where
+    pub new : List Entry
+    pub floors : List ℕ
+    pub parts : List Part
+    pub recorded : entries_in parts ≡ entries_of is.served names
+    pub are : uses ≡ enrolments run.serving.place.me names new floors
+        ++ ServesInParts (terms_in is.served names) bare parts run.left ∷ []
+
+  -- the uses of a history are the store's, one after the other
+  abbrev pub AreOf : (store : Store) (named : List (NamedUse U)) → AreNamedUses store named → List StoreUse → Type 0
+  AreOf store [] are uses = uses ≡ []
+  AreOf store (RunsBy run ∷ later) are uses =
+      (first : List StoreUse) × (rest : List StoreUse) × (uses ≡ first ++ rest)
+      × AreOfRun store run are.0 first × AreOf (store_left store run are.0) later are.1 rest
+  AreOf store (WritesBy action ∷ later) are uses =
+      (rest : List StoreUse) × (uses ≡ Writes action ∷ rest)
+      × AreOf (written_store setting action store) later are.1 rest
+
+  -- the uses of the store, as a history has them
+  pub record HasUsesOf (store : Store) (named : List (NamedUse U)) (are : AreNamedUses store named) : Type 0 where
+    pub uses : List StoreUse
+    pub are_of : AreOf store named are uses
+    pub are_uses : AreUses setting node store uses
+
+-- ---- All members
+
+module _ {S U : Type 0} (g : Ghosts S) (finds : sql.Held S → Type 0) (answers : U → ℕ → Bool → Bool → Type 0)
+    (setting : Setting) (names : List (List ℕ)) where
+  -- each node has such uses of its first store
+  abbrev pub AreAllNamedUses : (ℕ → List (NamedUse U)) → Type 0
+  AreAllNamedUses named = (node : ℕ)
+      → AreNamedUses g finds answers setting node names (first_store setting node) (named node)
+
+  -- one history has the uses of all members
+  pub record HasNamedHistory (named : ℕ → List (NamedUse U)) (are : AreAllNamedUses named) : Type 0 where
+    pub uses : ℕ → List StoreUse
+    pub are_of : (node : ℕ)
+        → AreOf g finds answers setting node names (first_store setting node) (named node) (are node) (uses node)
+    pub are_uses : AreAllUses setting uses
+    pub has : HasHistory setting uses
