@@ -175,6 +175,15 @@ class Faults(Case):
         self.counters(*self.logs(accepted("ann", 5) + "oathd: store: Disk\n  node1.db\n" + start(1, 2)))
         self.assertIn("log.1 line 5: ", self.refused("Lines", *self.logs(answers + "end received=9 replied=4\n")))
 
+    def test_lines_that_could_not_be_written(self):
+        for cut in ("", "accepted fr\n", "accepted %s OK n1 1\n" % FROM, "dropped li\n"):
+            logs = self.logs(accepted("ann", 5) + cut + "dropped lines=2\nend received=9 replied=7\n")
+            self.assertIn("could not write 2 lines", self.refused("Dropped", *logs))
+            self.assertEqual(self.counters(*logs, "--gaps", "--margin", "10"), [16, 10])
+        self.refused("UnknownLine", *self.logs("accepted fr\nheard member=2\ndropped lines=2\n"), "--gaps")
+        self.refused("UnknownLine", *self.logs("dropped lines=02\n"), "--gaps")
+        self.refused("Lines", *self.logs("dropped lines=2\n" + start(1, 2) + "end received=9 replied=7\n"), "--gaps")
+
     def test_users_files(self):
         self.assertIn("users line 1: ", self.refused("BadCounter", *self.logs(""), users="HOTP ann - 31 x\n"))
         self.refused("MissingField", *self.logs(""), users="HOTP ann -\n")

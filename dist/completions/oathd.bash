@@ -13,7 +13,7 @@ _oathd() {
             [[ ${words[1]} != floors ]] || COMPREPLY=($(compgen -W '1 2 3 4 5 6 7 8 9' -- "$cur"))
             return ;;
         --node) COMPREPLY=($(compgen -W '1 2 3 4 5 6 7 8 9' -- "$cur")); return ;;
-        --look-ahead | --skew | --range | --drift | --moment | --turns | --lost | --since) return ;;
+        --look-ahead | --skew | --range | --drift | --moment | --turns | --lost | --since | --log-to) return ;;
     esac
     command=${words[1]}
     case $command in
@@ -22,7 +22,7 @@ _oathd() {
         init) options='--node --cluster --skew --drift --moment --lost --anew --floors --since --begins' files=yes ;;
         serve)
             options='--node --cluster --members --key --look-ahead --skew --range --drift --clients --plain-lines'
-            options+=' --turns --forever --log --reload' files=yes ;;
+            options+=' --turns --forever --log --log-to --reload' files=yes ;;
         export | audit | migrate | gates | unlock | roster) options='--node --cluster' files=yes ;;
         floors) options='--node --members --cluster' files=yes ;;
         level) options='--node --floors --cluster' files=yes ;;

@@ -35,6 +35,8 @@ import wakdulg_operator
 LONGEST, PAUSE, KEPT = 1.9, 0.6, 1.0
 REASONS = ("BADLINE", "CLOCK", "BUSY", "UNKNOWN", "THROTTLED", "PASSWORD", "EXHAUSTED", "INVALID", "SPENT", "TIMEOUT")
 CAUSES = ("form", "tag", "early", "late", "again", "limited")
+# The longest commits of the buckets in milliseconds. The last bucket has longer ones.
+BUCKETS = ("1", "2", "5", "10", "20", "50", "100", "more")
 # The metrics in their order: name, type and help.
 METRICS = [(name, *rest.split(" ", 1)) for name, rest in [
     ("up", "gauge Whether the node answers."),
@@ -51,6 +53,8 @@ METRICS = [(name, *rest.split(" ", 1)) for name, rest in [
     ("accepted_total", "counter Answers OK."),
     ("refused_total", "counter Answers NO, by their reasons."),
     ("ticks_total", "counter Ticks of the node, some five a second."),
+    ("largest_batch", "gauge Datagrams of the largest batch of the node, at most 64."),
+    ("commit_seconds", "histogram Time from the last datagram of a batch to the first call after its commit."),
     ("unopened_total", "counter Sealed datagrams that the node didn't open, by their causes."),
     ("member_heard", "gauge Whether the node heard the member in the last five seconds."),
     ("member_age_seconds", "gauge Seconds since the node heard the member. A member that is silent has none."),
@@ -59,13 +63,14 @@ METRICS = [(name, *rest.split(" ", 1)) for name, rest in [
 # The metrics whose lines in a report are a word and a number.
 NUMBERS = {"boot": "boot", "clock": "clock_seconds", "started": "started_seconds", "tokens": "tokens",
            "pending": "pending", "closed": "gates_closed", "received": "received_total", "replied": "replied_total",
-           "accepted": "accepted_total", "ticks": "ticks_total"}
+           "accepted": "accepted_total", "ticks": "ticks_total", "largest-batch": "largest_batch"}
 
 
 def samples_of(lines):
     """Returns the samples of a report: the name, labels and value of each. Lines of other words are left out."""
     info, samples = {}, [("up", {}, 1)]
     refused, unopened = dict.fromkeys(REASONS, 0), dict.fromkeys(CAUSES, 0)
+    commits, took = None, dict.fromkeys(BUCKETS, 0)
     for line in lines:
         word, *rest = line.split(" ")
         if word in ("version", "fingerprint", "book"):
@@ -76,6 +81,10 @@ def samples_of(lines):
             samples.append((NUMBERS[word], {}, int(rest[0])))
         elif word == "refused":
             refused[rest[0]] = int(rest[1])
+        elif word == "commits":
+            commits = int(rest[0])
+        elif word == "commit-millis":
+            took[rest[0]] = int(rest[1])
         elif word == "unopened":
             unopened[rest[0]] = int(rest[1])
         elif word == "member":
@@ -83,7 +92,16 @@ def samples_of(lines):
     samples.append(("info", info, 1))
     samples += [("refused_total", {"reason": reason}, count) for reason, count in refused.items()]
     samples += [("unopened_total", {"cause": cause}, count) for cause, count in unopened.items()]
-    return samples
+    return samples + ([] if commits is None else commit_samples(commits, took))
+
+
+def commit_samples(commits, took):
+    """Returns the samples of the histogram of commits. Its buckets have all commits up to a time. A report has no sum."""
+    samples, count = [], 0
+    for millis in BUCKETS[:-1]:
+        count += took[millis]
+        samples.append(("commit_seconds_bucket", {"le": "%g" % (int(millis) / 1000)}, count))
+    return samples + [("commit_seconds_bucket", {"le": "+Inf"}, commits), ("commit_seconds_count", {}, commits)]
 
 
 def member_samples(member, seen, seconds=None):
@@ -99,7 +117,7 @@ def text_of(by_node):
     for node, samples in sorted(by_node.items()):
         for name, labels, value in samples:
             pairs = ",".join('%s="%s"' % (label, re.sub(r'["\\\n]', "?", text)) for label, text in labels.items())
-            found[name].append('wakdulg_%s{node="%d"%s} %d' % (name, node, "," + pairs if pairs else "", value))
+            found[re.sub("_(bucket|count)$", "", name)].append('wakdulg_%s{node="%d"%s} %d' % (name, node, "," + pairs if pairs else "", value))
     lines = []
     for name, kind, text in METRICS:
         if found[name]:

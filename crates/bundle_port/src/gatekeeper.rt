@@ -11,6 +11,8 @@ impl<P: Gatekeeper + Drop> Gatekeeper for BundlePort<P> {
 
     ghost fell = { λ bundles. P.fell bundles.port };
 
+    ghost gone_back = { λ bundles. P.gone_back bundles.port };
+
     ghost differing = { λ bundles. P.differing bundles.port };
 
     ghost aside = { λ bundles. P.aside bundles.port };
@@ -31,12 +33,20 @@ impl<P: Gatekeeper + Drop> Gatekeeper for BundlePort<P> {
         self.port.take_fell()
     }
 
+    fn gone_back(&self) -> [bool; PLACES] {
+        self.port.gone_back()
+    }
+
     fn take_differing(&mut self) -> [bool; PLACES] {
         self.port.take_differing()
     }
 
     fn take_request(&mut self) -> Option<SetAside> {
         self.port.take_request()
+    }
+
+    fn drain(&mut self) {
+        self.port.drain();
     }
 
     fn report(&mut self, request: &SetAside, page: &[u8]) -> bool {

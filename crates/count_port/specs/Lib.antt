@@ -1,3 +1,5 @@
+pub mod Batches
 pub mod Counts
 pub mod Members
+pub mod Told
 pub mod Unopened

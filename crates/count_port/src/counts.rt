@@ -53,7 +53,7 @@ fn reason_of(answer: &[u8]) -> &[u8]
 }
 
 /// Returns a number with one more, at most `u64::MAX`.
-fn one_more(number: u64) -> u64
+pub(crate) fn one_more(number: u64) -> u64
     ensures { result ≡ one_more number }
 {
     number.saturating_add(1)

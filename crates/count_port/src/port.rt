@@ -1,28 +1,37 @@
 //! A node's port that counts what passes.
 
-ghost use Rattle.std.specs.Prelude.{◌≡◌, ◌≢◌, ◌∷◌, [], Some, IfSome, map};
+ghost use Rattle.std.specs.Prelude.{◌≡◌, ◌≢◌, ◌∷◌, ◌≤◌, [], Some, IfSome, length, map};
 ghost use Rattle.datagram_port.specs.declared.port.Received.TheVariants.{Quiet as QuietReceive};
 ghost use Rattle.datagram_port.specs.declared.port.Sender.TheVariants.{Peer};
 ghost use Rattle.datagram_port.specs.Port.{Grows, IsWithin, Offered, Received as ReceivedEvent, entries_of_poll, event_of_receive};
+ghost use Rattle.count_port.specs.Batches.{Settles, SettlesAndTakes, Takes, no_batches};
 ghost use Rattle.count_port.specs.Counts.{counts_after, ticks_of};
 ghost use Rattle.count_port.specs.Members.{members_after, seen_of as seen_of_member, with_datagram};
+ghost use Rattle.count_port.specs.Told.{Tells};
 ghost use Rattle.count_port.specs.Unopened.{sums_of};
+ghost use Rattle.sealed_port.specs.Aside.{oldest, others};
 ghost use Rattle.sealed_port.specs.Causes.{nothing};
 
+use crate::batches::Batches;
 use crate::counts::Counts;
 use crate::members::{Member, differ, hear, others_of, rest, seen_of};
 use arrayvec::ArrayVec;
 use datagram_port::{Port, Received, Sender};
 use node_log::{Counters, Fell, Gatekeeper, MAX_OTHERS, Older, PLACES, is_read};
 use sealed_port::{SetAside, Unopened};
+use std::time::Clock as TimeSource;
 use vote_wire::ClusterKey;
 
-/// A node's port over another one, which counts what passes.
+/// A node's port over another one, which counts what passes. It reads a clock when a datagram came, and at the first
+/// call after each batch.
 #[derive(Drop)]
-pub struct CountPort<'k, P: Gatekeeper + Drop> {
+pub struct CountPort<'k, P: Gatekeeper + Drop, N: TimeSource> {
     port: P,
     key: &'k ClusterKey,
+    /// The clock by which commits are measured.
+    outside: &'k N,
     counts: Counts,
+    batches: Batches,
     members: ArrayVec<Member, MAX_OTHERS>,
     /// The numbers of datagrams that the port below didn't open, since the process began.
     unopened: Unopened,
@@ -63,15 +72,42 @@ fn note_datagram(
     }
 }
 
-impl<'k, P: Gatekeeper + Drop> CountPort<'k, P> {
-    /// Returns a port over `port`, with the key of the node, its number, and the number of members.
-    pub fn new(port: P, key: &'k ClusterKey, me: u8, n: u8) -> Self
+/// Returns what a port tells of what it counted.
+fn counters_of(
+    counts: &Counts,
+    batches: &Batches,
+    unopened: &Unopened,
+    members: &[Member],
+) -> Counters
+    requires { length members.now ≤ 8 }
+    ensures { Tells counts.now batches.now unopened.now members.now result }
+{
+    Counters {
+        received: counts.received,
+        replied: counts.replied,
+        accepted: counts.accepted,
+        refused: counts.refused,
+        ticks: counts.ticks(),
+        largest_batch: batches.largest,
+        commit_times: batches.times,
+        unopened: *unopened,
+        others: seen_of(members),
+    }
+}
+
+impl<'k, P: Gatekeeper + Drop, N: TimeSource> CountPort<'k, P, N> {
+    /// Returns a port over `port`, with the key of the node, its number, and the number of members. It measures commits
+    /// by the monotonic clock of `outside`.
+    pub fn new(port: P, key: &'k ClusterKey, me: u8, n: u8, outside: &'k N) -> Self
         ensures port { result.port ≡ port }
+        ensures batches { result.batches ≡ no_batches }
     {
         CountPort {
             port,
             key,
+            outside,
             counts: Counts::default(),
+            batches: Batches::new(),
             members: others_of(me, n),
             unopened: Unopened::new(),
             untaken: Unopened::new(),
@@ -89,7 +125,8 @@ impl<'k, P: Gatekeeper + Drop> CountPort<'k, P> {
         ensures aside { P.aside self.new.port ≡ P.aside self.old.port }
         ensures events { P.events self.new.port ≡ P.events self.old.port }
         ensures stays { P.setup self.new.port ≡ P.setup self.old.port }
-        ensures same { (self.new.counts ≡ self.old.counts) × (self.new.members ≡ self.old.members) }
+        ensures same { (self.new.counts ≡ self.old.counts) × (self.new.batches ≡ self.old.batches)
+            × (self.new.members ≡ self.old.members) }
     {
         let unopened = self.port.take_unopened();
         self.unopened = sums_of(&self.unopened, &unopened);
@@ -103,7 +140,8 @@ impl<'k, P: Gatekeeper + Drop> CountPort<'k, P> {
         ensures members { self.new.members.items
             ≡ members_after self.old.key.now (event_of_receive received buffer.now) self.old.members.items }
         ensures same { (self.new.port ≡ self.old.port) × (self.new.key ≡ self.old.key)
-            × (self.new.unopened ≡ self.old.unopened) × (self.new.untaken ≡ self.old.untaken) }
+            × (self.new.unopened ≡ self.old.unopened) × (self.new.untaken ≡ self.old.untaken)
+            × (self.new.outside ≡ self.old.outside) × (self.new.batches ≡ self.old.batches) }
     {
         match received {
             Received::Datagram { sender, len } => {
@@ -124,7 +162,7 @@ impl<'k, P: Gatekeeper + Drop> CountPort<'k, P> {
     }
 }
 
-impl<P: Gatekeeper + Drop> Port for CountPort<'_, P> {
+impl<P: Gatekeeper + Drop, N: TimeSource> Port for CountPort<'_, P, N> {
     ghost events = { λ counted. P.events counted.port };
 
     ghost setup = { λ counted. P.setup counted.port };
@@ -137,8 +175,11 @@ impl<P: Gatekeeper + Drop> Port for CountPort<'_, P> {
         ensures counts { self.new.counts ≡ counts_after (event_of_receive result buffer.new) self.old.counts }
         ensures members { self.new.members.items
             ≡ members_after self.old.key.now (event_of_receive result buffer.new) self.old.members.items }
+        ensures batches { SettlesAndTakes result self.old.batches self.new.batches }
     {
+        self.batches.settle(self.outside);
         let received = self.port.receive(buffer);
+        self.batches.take(received, self.outside);
         self.count(received, buffer);
         received
     }
@@ -150,9 +191,11 @@ impl<P: Gatekeeper + Drop> Port for CountPort<'_, P> {
         ensures stays { P.setup self.new.port ≡ P.setup self.old.port }
         ensures counts { IfSome result (λ received.
             self.new.counts ≡ counts_after (event_of_receive received buffer.new) self.old.counts) }
+        ensures batches { IfSome result (λ received. Takes received self.old.batches self.new.batches) }
     {
         let received = self.port.poll(buffer);
         if let Some(received) = received {
+            self.batches.take(received, self.outside);
             self.count(received, buffer);
         }
         received
@@ -162,7 +205,9 @@ impl<P: Gatekeeper + Drop> Port for CountPort<'_, P> {
         ensures event { Grows (P.events self.old.port) (P.events self.new.port) (Offered to bytes.now ∷ []) }
         ensures stays { P.setup self.new.port ≡ P.setup self.old.port }
         ensures counts { self.new.counts ≡ counts_after (Offered to bytes.now) self.old.counts }
+        ensures batches { Settles self.old.batches self.new.batches }
     {
+        self.batches.settle(self.outside);
         match to {
             Sender::Client(_) => self.counts.answer(bytes),
             Sender::Peer(_) => {}
@@ -171,7 +216,7 @@ impl<P: Gatekeeper + Drop> Port for CountPort<'_, P> {
     }
 }
 
-impl<P: Gatekeeper + Drop> Gatekeeper for CountPort<'_, P> {
+impl<P: Gatekeeper + Drop, N: TimeSource> Gatekeeper for CountPort<'_, P, N> {
     ghost use Rattle.count_port.specs.Unopened.{sums_of};
 
     ghost unopened = { λ counted. sums_of counted.untaken (P.unopened counted.port) };
@@ -179,6 +224,8 @@ impl<P: Gatekeeper + Drop> Gatekeeper for CountPort<'_, P> {
     ghost older = { λ counted. P.older counted.port };
 
     ghost fell = { λ counted. P.fell counted.port };
+
+    ghost gone_back = { λ counted. P.gone_back counted.port };
 
     ghost differing = { λ counted. P.differing counted.port };
 
@@ -203,32 +250,74 @@ impl<P: Gatekeeper + Drop> Gatekeeper for CountPort<'_, P> {
         self.port.take_fell()
     }
 
+    fn gone_back(&self) -> [bool; PLACES] {
+        self.port.gone_back()
+    }
+
     fn take_differing(&mut self) -> [bool; PLACES] {
         self.port.take_differing()
     }
 
-    fn take_request(&mut self) -> Option<SetAside> {
+    fn take_request(&mut self) -> Option<SetAside>
+        ensures request { result ≡ oldest (P.aside self.old.port) }
+        ensures others { P.aside self.new.port ≡ others (P.aside self.old.port) }
+        ensures unopened { sums_of self.new.untaken (P.unopened self.new.port)
+            ≡ sums_of self.old.untaken (P.unopened self.old.port) }
+        ensures older { P.older self.new.port ≡ P.older self.old.port }
+        ensures fell { P.fell self.new.port ≡ P.fell self.old.port }
+        ensures differing { P.differing self.new.port ≡ P.differing self.old.port }
+        ensures events { P.events self.new.port ≡ P.events self.old.port }
+        ensures stays { P.setup self.new.port ≡ P.setup self.old.port }
+        ensures batches { Settles self.old.batches self.new.batches }
+    {
+        self.batches.settle(self.outside);
         self.port.take_request()
     }
 
-    fn report(&mut self, request: &SetAside, page: &[u8]) -> bool {
+    fn report(&mut self, request: &SetAside, page: &[u8]) -> bool
+        ensures reports { Grows (P.below self.old.port) (P.below self.new.port)
+            (P.reported self.old.port request.now page.now) }
+        ensures unopened { sums_of self.new.untaken (P.unopened self.new.port)
+            ≡ sums_of self.old.untaken (P.unopened self.old.port) }
+        ensures older { P.older self.new.port ≡ P.older self.old.port }
+        ensures fell { P.fell self.new.port ≡ P.fell self.old.port }
+        ensures differing { P.differing self.new.port ≡ P.differing self.old.port }
+        ensures aside { P.aside self.new.port ≡ P.aside self.old.port }
+        ensures events { P.events self.new.port ≡ P.events self.old.port }
+        ensures stays { P.setup self.new.port ≡ P.setup self.old.port }
+        ensures batches { Settles self.old.batches self.new.batches }
+    {
+        self.batches.settle(self.outside);
         self.port.report(request, page)
     }
 
-    fn flush(&mut self) {
+    fn drain(&mut self) {
+        self.port.drain();
+    }
+
+    fn flush(&mut self)
+        ensures events { P.events self.new.port ≡ P.events self.old.port }
+        ensures stays { P.setup self.new.port ≡ P.setup self.old.port }
+        ensures batches { Settles self.old.batches self.new.batches }
+    {
+        self.batches.settle(self.outside);
         self.port.flush();
     }
 
-    fn counters(&mut self) -> Counters {
+    fn counters(&mut self) -> Counters
+        ensures unopened { sums_of self.new.untaken (P.unopened self.new.port)
+            ≡ sums_of self.old.untaken (P.unopened self.old.port) }
+        ensures older { P.older self.new.port ≡ P.older self.old.port }
+        ensures fell { P.fell self.new.port ≡ P.fell self.old.port }
+        ensures differing { P.differing self.new.port ≡ P.differing self.old.port }
+        ensures aside { P.aside self.new.port ≡ P.aside self.old.port }
+        ensures events { P.events self.new.port ≡ P.events self.old.port }
+        ensures stays { P.setup self.new.port ≡ P.setup self.old.port }
+        ensures batches { Settles self.old.batches self.new.batches }
+        ensures tells { Tells self.old.counts self.new.batches self.new.unopened self.old.members.items result }
+    {
+        self.batches.settle(self.outside);
         self.collect();
-        Counters {
-            received: self.counts.received,
-            replied: self.counts.replied,
-            accepted: self.counts.accepted,
-            refused: self.counts.refused,
-            ticks: self.counts.ticks(),
-            unopened: self.unopened,
-            others: seen_of(&self.members),
-        }
+        counters_of(&self.counts, &self.batches, &self.unopened, &self.members)
     }
 }

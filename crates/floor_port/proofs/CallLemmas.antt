@@ -9,7 +9,7 @@ use Rattle.datagram_port.specs.declared.port.Sender.{Sender}
 use Rattle.datagram_port.specs.declared.port.Sender.TheVariants.{Client, Peer}
 use Rattle.named_wire.specs.declared.head.Head.{Head}
 use Rattle.floor_port.specs.Claims.{is_fallen}
-use Rattle.floor_port.specs.Packer.{PackerRecord, after_datagram, after_event, after_held, after_member, after_offer, after_told, fall_by, floor_head, new_packer, next_bytes, told_at, told_by, turns_due, with_claims, with_others}
+use Rattle.floor_port.specs.Packer.{PackerRecord, StartRecord, after_datagram, after_event, after_held, after_member, after_offer, after_told, fall_by, floor_head, new_packer, next_bytes, told_at, told_by, turns_due, with_claims, with_others}
 use Rattle.floor_port.specs.Rows.{RowsRecord, after_news, after_turn, after_turns, after_witness, news}
 use Rattle.floor_port.specs.Runs.{Call, Came, Left, Offer, IsAfter, may_call, may_make, after, after_calls, at_start, below, below_events, handed, handed_events}
 use Rattle.floor_port.specs.declared.record.Record.{Record}
@@ -50,117 +50,121 @@ may_receive p Fault buffer none = none
 
 -- ---- no call changes the start
 
+-- without members that went back, and without floors
+abbrev pub no_start : StartRecord
+no_start = record { gone_back = []; floors = [] }
+
 turns_names : (rows : RowsRecord) (turns : ℕ) → (after_turns rows turns).names ≡ rows.names
 turns_names rows zero = refl
 turns_names rows (suc turns) = turns_names (after_turn rows) turns
 
-start_member : (p : PackerRecord) (member : ℕ) (told : Option (Head × List NamedFloor)) (floors : List ℕ) → at_start (after_member p member told) floors ≡ at_start p floors
-start_member p member None floors = refl
-start_member p member (Some told) floors = refl
+start_member : (p : PackerRecord) (member : ℕ) (told : Option (Head × List NamedFloor)) (start : StartRecord) → at_start (after_member p member told) start ≡ at_start p start
+start_member p member None start = refl
+start_member p member (Some told) start = refl
 
-start_others : (p : PackerRecord) (head : Head) (others : List NamedFloor) (floors : List ℕ) → at_start (with_others p head others) floors ≡ at_start p floors
-start_others p head [] floors = refl
-start_others p head (one ∷ others) floors = refl
+start_others : (p : PackerRecord) (head : Head) (others : List NamedFloor) (start : StartRecord) → at_start (with_others p head others) start ≡ at_start p start
+start_others p head [] start = refl
+start_others p head (one ∷ others) start = refl
 
-start_told : (p : PackerRecord) (told : Option (Head × List NamedFloor)) (floors : List ℕ) → at_start (after_told p told) floors ≡ at_start p floors
-start_told p None floors = refl
-start_told p (Some told) floors =
-    start_others (record p { rows = after_news p.rows told.1 }) (floor_head told.0) (news p.rows.names p.rows.known told.1) floors
+start_told : (p : PackerRecord) (told : Option (Head × List NamedFloor)) (start : StartRecord) → at_start (after_told p told) start ≡ at_start p start
+start_told p None start = refl
+start_told p (Some told) start =
+    start_others (record p { rows = after_news p.rows told.1 }) (floor_head told.0) (news p.rows.names p.rows.known told.1) start
 
-start_claims : (p : PackerRecord) (member : ℕ) (told : Option (Head × List NamedFloor)) (floors : List ℕ) → at_start (with_claims p member told) floors ≡ at_start p floors
-start_claims p member None floors = refl
-start_claims p member (Some told) floors = refl
+start_claims : (p : PackerRecord) (member : ℕ) (told : Option (Head × List NamedFloor)) (start : StartRecord) → at_start (with_claims p member told) start ≡ at_start p start
+start_claims p member None start = refl
+start_claims p member (Some told) start = refl
 
-start_floors : (p : PackerRecord) (member : ℕ) (told : Option (Head × List NamedFloor)) (fall : Option NamedFloor) (floors : List ℕ)
-    → at_start (after_held p member told fall) floors ≡ at_start p floors
-start_floors p member told None floors = start_told (after_member p member told) told floors ∙ start_member p member told floors
-start_floors p member told (Some floor) floors = refl
+start_floors : (p : PackerRecord) (member : ℕ) (told : Option (Head × List NamedFloor)) (fall : Option NamedFloor) (start : StartRecord)
+    → at_start (after_held p member told fall) start ≡ at_start p start
+start_floors p member told None start = start_told (after_member p member told) told start ∙ start_member p member told start
+start_floors p member told (Some floor) start = refl
 
-start_datagram : (p : PackerRecord) (member : ℕ) (told : Option (Head × List NamedFloor)) (floors : List ℕ) → at_start (after_datagram p member told) floors ≡ at_start p floors
-start_datagram p member told floors = go (is_fallen p.claims member)
+start_datagram : (p : PackerRecord) (member : ℕ) (told : Option (Head × List NamedFloor)) (start : StartRecord) → at_start (after_datagram p member told) start ≡ at_start p start
+start_datagram p member told start = go (is_fallen p.claims member)
   where
-    go : (fallen : Bool) → at_start (cond fallen p (after_held (with_claims p member told) member told (fall_by p member told))) floors ≡ at_start p floors
+    go : (fallen : Bool) → at_start (cond fallen p (after_held (with_claims p member told) member told (fall_by p member told))) start ≡ at_start p start
     go true = refl
-    go false = start_floors (with_claims p member told) member told (fall_by p member told) floors ∙ start_claims p member told floors
+    go false = start_floors (with_claims p member told) member told (fall_by p member told) start ∙ start_claims p member told start
 
-start_event : (p : PackerRecord) (event : PortEvent) (floors : List ℕ) → at_start (after_event p event) floors ≡ at_start p floors
-start_event p (Received (Peer member) bytes) floors = start_datagram p member (told_by p member bytes) floors
-start_event p (Received (Client number) bytes) floors = refl
-start_event p Quiet floors = ap (λ (names : List (List ℕ)). new_packer p.key names p.me p.boot p.members floors) (turns_names p.rows (turns_due p))
-start_event p Faulted floors = refl
-start_event p (Offered to bytes) floors = refl
+start_event : (p : PackerRecord) (event : PortEvent) (start : StartRecord) → at_start (after_event p event) start ≡ at_start p start
+start_event p (Received (Peer member) bytes) start = start_datagram p member (told_by p member bytes) start
+start_event p (Received (Client number) bytes) start = refl
+start_event p Quiet start = ap (λ (names : List (List ℕ)). new_packer p.key names p.me p.boot p.members start) (turns_names p.rows (turns_due p))
+start_event p Faulted start = refl
+start_event p (Offered to bytes) start = refl
 
-start_witness : (p : PackerRecord) (floor : Option NamedFloor) (floors : List ℕ) → at_start (record p { rows = after_witness p.rows floor }) floors ≡ at_start p floors
-start_witness p None floors = refl
-start_witness p (Some floor) floors = refl
+start_witness : (p : PackerRecord) (floor : Option NamedFloor) (start : StartRecord) → at_start (record p { rows = after_witness p.rows floor }) start ≡ at_start p start
+start_witness p None start = refl
+start_witness p (Some floor) start = refl
 
-start_offer : (p : PackerRecord) (to : Sender) (bytes floors : List ℕ) → at_start (after_offer p to bytes) floors ≡ at_start p floors
-start_offer p (Peer member) bytes floors = start_witness p (witness_of bytes) floors
-start_offer p (Client number) bytes floors = refl
+start_offer : (p : PackerRecord) (to : Sender) (bytes : List ℕ) (start : StartRecord) → at_start (after_offer p to bytes) start ≡ at_start p start
+start_offer p (Peer member) bytes start = start_witness p (witness_of bytes) start
+start_offer p (Client number) bytes start = refl
 
-pub same_start : (p : PackerRecord) (call : Call) (floors : List ℕ) → at_start (after p call) floors ≡ at_start p floors
-same_start p (Came event) floors = start_event p event floors
-same_start p Left floors = refl
-same_start p (Offer to bytes) floors = start_offer p to bytes floors
+pub same_start : (p : PackerRecord) (call : Call) (start : StartRecord) → at_start (after p call) start ≡ at_start p start
+same_start p (Came event) start = start_event p event start
+same_start p Left start = refl
+same_start p (Offer to bytes) start = start_offer p to bytes start
 
 -- ---- a port after calls
 
 -- one more call of the port below
-pub after_call : (old new : Option (List PortEvent)) (p u : PackerRecord) (floors : List ℕ) (calls more : List Call) (call : Call)
-    → IsAfter old p (at_start p floors) calls → may_call p call ≡ true → more ≡ calls ++ call ∷ [] → u ≡ after p call → Grows old new (below p call)
-    → IsAfter new u (at_start u floors) more
-after_call old new p u floors calls more call a may noted is grows =
-    subst (IsAfter new u (at_start u floors)) (sym noted) (record { is_made = made; packer_is = packer; below_is = events })
+pub after_call : (old new : Option (List PortEvent)) (p u : PackerRecord) (start : StartRecord) (calls more : List Call) (call : Call)
+    → IsAfter old p (at_start p start) calls → may_call p call ≡ true → more ≡ calls ++ call ∷ [] → u ≡ after p call → Grows old new (below p call)
+    → IsAfter new u (at_start u start) more
+after_call old new p u start calls more call a may noted is grows =
+    subst (IsAfter new u (at_start u start)) (sym noted) (record { is_made = made; packer_is = packer; below_is = events })
   where
-    made : may_make (at_start u floors) (calls ++ call ∷ []) ≡ true
-    made = subst (λ (x : PackerRecord). may_make x (calls ++ call ∷ []) ≡ true) (sym (ap (λ (x : PackerRecord). at_start x floors) is ∙ same_start p call floors))
-        (may_more (at_start p floors) calls call a.is_made (subst (λ (x : PackerRecord). may_call x call ≡ true) a.packer_is may))
+    made : may_make (at_start u start) (calls ++ call ∷ []) ≡ true
+    made = subst (λ (x : PackerRecord). may_make x (calls ++ call ∷ []) ≡ true) (sym (ap (λ (x : PackerRecord). at_start x start) is ∙ same_start p call start))
+        (may_more (at_start p start) calls call a.is_made (subst (λ (x : PackerRecord). may_call x call ≡ true) a.packer_is may))
 
-    start : at_start u floors ≡ at_start p floors
-    start = ap (λ (x : PackerRecord). at_start x floors) is ∙ same_start p call floors
+    same : at_start u start ≡ at_start p start
+    same = ap (λ (x : PackerRecord). at_start x start) is ∙ same_start p call start
 
-    packer : u ≡ after_calls (at_start u floors) (calls ++ call ∷ [])
+    packer : u ≡ after_calls (at_start u start) (calls ++ call ∷ [])
     packer =
         is
         ∙ ap (λ (x : PackerRecord). after x call) a.packer_is
-        ∙ sym (after_more (at_start p floors) calls call)
-        ∙ ap (λ (x : PackerRecord). after_calls x (calls ++ call ∷ [])) (sym start)
+        ∙ sym (after_more (at_start p start) calls call)
+        ∙ ap (λ (x : PackerRecord). after_calls x (calls ++ call ∷ [])) (sym same)
 
-    events : (now : List PortEvent) → new ≡ Some now → now ≡ below_events (at_start u floors) (calls ++ call ∷ [])
+    events : (now : List PortEvent) → new ≡ Some now → now ≡ below_events (at_start u start) (calls ++ call ∷ [])
     events now e =
         let g = grown old new (below p call) now grows e in
         sym g.2
         ∙ ap (λ (x : List PortEvent). x ++ below p call) (a.below_is g.0 g.1)
-        ∙ ap (λ (x : PackerRecord). below_events (at_start p floors) calls ++ below x call) a.packer_is
-        ∙ sym (below_more (at_start p floors) calls call)
-        ∙ ap (λ (x : PackerRecord). below_events x (calls ++ call ∷ [])) (sym start)
+        ∙ ap (λ (x : PackerRecord). below_events (at_start p start) calls ++ below x call) a.packer_is
+        ∙ sym (below_more (at_start p start) calls call)
+        ∙ ap (λ (x : PackerRecord). below_events x (calls ++ call ∷ [])) (sym same)
 
 -- the events of the node's port for one more call
-pub told_call : (below : Option (List PortEvent)) (p u : PackerRecord) (floors : List ℕ) (calls more : List Call) (call : Call) (event : PortEvent)
-    → IsAfter below p (at_start p floors) calls → more ≡ calls ++ call ∷ [] → u ≡ after p call → event ≡ handed p call
-    → Grows (Some (handed_events (at_start p floors) calls)) (Some (handed_events (at_start u floors) more)) (event ∷ [])
-told_call below p u floors calls more call event a noted is event_is =
+pub told_call : (below : Option (List PortEvent)) (p u : PackerRecord) (start : StartRecord) (calls more : List Call) (call : Call) (event : PortEvent)
+    → IsAfter below p (at_start p start) calls → more ≡ calls ++ call ∷ [] → u ≡ after p call → event ≡ handed p call
+    → Grows (Some (handed_events (at_start p start) calls)) (Some (handed_events (at_start u start) more)) (event ∷ [])
+told_call below p u start calls more call event a noted is event_is =
     ap present
-    (ap (λ (x : PortEvent). handed_events (at_start p floors) calls ++ x ∷ []) event_is
-    ∙ ap (λ (x : PackerRecord). handed_events (at_start p floors) calls ++ handed x call ∷ []) a.packer_is
-    ∙ sym (handed_more (at_start p floors) calls call)
-    ∙ ap (λ (x : PackerRecord). handed_events x (calls ++ call ∷ [])) (sym (same_start p call floors) ∙ ap (λ (x : PackerRecord). at_start x floors) (sym is))
-    ∙ ap (λ (x : List Call). handed_events (at_start u floors) x) (sym noted))
+    (ap (λ (x : PortEvent). handed_events (at_start p start) calls ++ x ∷ []) event_is
+    ∙ ap (λ (x : PackerRecord). handed_events (at_start p start) calls ++ handed x call ∷ []) a.packer_is
+    ∙ sym (handed_more (at_start p start) calls call)
+    ∙ ap (λ (x : PackerRecord). handed_events x (calls ++ call ∷ [])) (sym (same_start p call start) ∙ ap (λ (x : PackerRecord). at_start x start) (sym is))
+    ∙ ap (λ (x : List Call). handed_events (at_start u start) x) (sym noted))
 
 -- ---- calls that the record of a port notes
 
-pub after_noted : (old new : Option (List PortEvent)) (p u : PackerRecord) (before now : Record) (call : Call) → IsAfter old p (at_start p before.floors) before.calls → may_call p call ≡ true
-    → now ≡ record before { calls = before.calls ++ call ∷ [] } → u ≡ after p call → Grows old new (below p call) → IsAfter new u (at_start u now.floors) now.calls
+pub after_noted : (old new : Option (List PortEvent)) (p u : PackerRecord) (before now : Record) (call : Call) → IsAfter old p (at_start p before.start) before.calls → may_call p call ≡ true
+    → now ≡ record before { calls = before.calls ++ call ∷ [] } → u ≡ after p call → Grows old new (below p call) → IsAfter new u (at_start u now.start) now.calls
 after_noted old new p u before now call a may noted is grows =
-    subst (λ (r : Record). IsAfter new u (at_start u r.floors) r.calls) (sym noted)
-    (after_call old new p u before.floors before.calls (before.calls ++ call ∷ []) call a may refl is grows)
+    subst (λ (r : Record). IsAfter new u (at_start u r.start) r.calls) (sym noted)
+    (after_call old new p u before.start before.calls (before.calls ++ call ∷ []) call a may refl is grows)
 
-pub told_noted : (below : Option (List PortEvent)) (p u : PackerRecord) (before now : Record) (call : Call) (event : PortEvent) → IsAfter below p (at_start p before.floors) before.calls
+pub told_noted : (below : Option (List PortEvent)) (p u : PackerRecord) (before now : Record) (call : Call) (event : PortEvent) → IsAfter below p (at_start p before.start) before.calls
     → now ≡ record before { calls = before.calls ++ call ∷ [] } → u ≡ after p call → event ≡ handed p call
-    → Grows (Some (handed_events (at_start p before.floors) before.calls)) (Some (handed_events (at_start u now.floors) now.calls)) (event ∷ [])
+    → Grows (Some (handed_events (at_start p before.start) before.calls)) (Some (handed_events (at_start u now.start) now.calls)) (event ∷ [])
 told_noted below p u before now call event a noted is event_is =
-    subst (λ (r : Record). Grows (Some (handed_events (at_start p before.floors) before.calls)) (Some (handed_events (at_start u r.floors) r.calls)) (event ∷ [])) (sym noted)
-    (told_call below p u before.floors before.calls (before.calls ++ call ∷ []) call event a refl is event_is)
+    subst (λ (r : Record). Grows (Some (handed_events (at_start p before.start) before.calls)) (Some (handed_events (at_start u r.start) r.calls)) (event ∷ [])) (sym noted)
+    (told_call below p u before.start before.calls (before.calls ++ call ∷ []) call event a refl is event_is)
 
 -- ---- the first floor that is left
 
@@ -207,10 +211,10 @@ pub grows_came : (old mid new : Option (List PortEvent)) (p : PackerRecord) (eve
 grows_came old mid new p event one two = grows_both old mid new (event ∷ []) (told_at p event) one two
 
 -- a port at its start
-pub after_none : (below : Option (List PortEvent)) (p : PackerRecord) (key : List ℕ) (names : List (List ℕ)) (me boot members : ℕ) (floors : List ℕ) (calls : List Call) → IfSome below (λ events. events ≡ [])
-    → p ≡ new_packer key names me boot members floors → calls ≡ [] → IsAfter below p (at_start p floors) calls
-after_none below p key names me boot members floors calls fresh is none =
-    subst (IsAfter below p (at_start p floors)) (sym none) (subst (λ (x : PackerRecord). IsAfter below x (at_start x floors) []) (sym is) (record {
+pub after_none : (below : Option (List PortEvent)) (p : PackerRecord) (key : List ℕ) (names : List (List ℕ)) (me boot members : ℕ) (start : StartRecord) (calls : List Call) → IfSome below (λ events. events ≡ [])
+    → p ≡ new_packer key names me boot members start → calls ≡ [] → IsAfter below p (at_start p start) calls
+after_none below p key names me boot members start calls fresh is none =
+    subst (IsAfter below p (at_start p start)) (sym none) (subst (λ (x : PackerRecord). IsAfter below x (at_start x start) []) (sym is) (record {
       is_made = refl;
       packer_is = refl;
       below_is = λ events e. subst (λ (o : Option (List PortEvent)). IfSome o (λ l. l ≡ [])) e fresh;

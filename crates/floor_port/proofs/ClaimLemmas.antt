@@ -11,7 +11,7 @@ use Rattle.named_wire.specs.declared.head.Head.{Head}
 use Rattle.named_wire.proofs.HeadLemmas.{head_takes}
 use Rattle.named_wire.proofs.TagLemmas.{takes}
 use Rattle.floor_port.specs.Claims.{ClaimsRecord, claim_of, claims_after, falls, first_fall, is_below, is_fall, is_fallen, is_older, kept_after, kept_with, no_claim, place_of, with_fallen}
-use Rattle.floor_port.specs.Promises.{Among, IsTold, WentBack}
+use Rattle.floor_port.specs.Promises.{Among, HasGoneBack, IsTold, WentBack}
 use Rattle.floor_port.specs.Runs.{Call}
 use Rattle.floor_port.specs.declared.claims.Claim.{Claim}
 use Rattle.floor_port.specs.declared.floor.NamedFloor.{NamedFloor}
@@ -193,19 +193,15 @@ took key names me all boots member boot head tells greatest kept (floor ∷ floo
 
 -- ---- the claims of a packer
 
--- the member went back, by the floors of some token
-abbrev pub HasGoneBack : List ℕ → ℕ → List Call → ℕ → Type 0
-HasGoneBack key me all member = (name : List ℕ) × WentBack key me all member name
-
 -- the claims are backed, and the members whose floors fell went back
-pub record AreSound (key : List ℕ) (names : List (List ℕ)) (me : ℕ) (all : List Call) (claims : ClaimsRecord) : Type 0 where
+pub record AreSound (key : List ℕ) (known : List Bool) (names : List (List ℕ)) (me : ℕ) (all : List Call) (claims : ClaimsRecord) : Type 0 where
   pub places : length claims.boots ≡ 10
   pub backed : AreBacked key names me all claims.boots claims.kept
-  pub fallen : (member : ℕ) → is_fallen claims member ≡ true → HasGoneBack key me all member
+  pub fallen : (member : ℕ) → is_fallen claims member ≡ true → HasGoneBack key known me all member
 
 -- the claims after floors, and the fall of the member
-pub record AreTaken (key : List ℕ) (names : List (List ℕ)) (me : ℕ) (all : List Call) (member : ℕ) (claims : ClaimsRecord) (fall : Option NamedFloor) : Type 0 where
-  pub sound : AreSound key names me all claims
+pub record AreTaken (key : List ℕ) (known : List Bool) (names : List (List ℕ)) (me : ℕ) (all : List Call) (member : ℕ) (claims : ClaimsRecord) (fall : Option NamedFloor) : Type 0 where
+  pub sound : AreSound key known names me all claims
   pub fell : (floor : NamedFloor) → fall ≡ Some floor → WentBack key me all member floor.name
 
 -- the greatest boot rises
@@ -225,24 +221,24 @@ boots_backed key names me all boots kept member boot rises backed = λ r m one n
       told = b.told;
     }
 
-fallen_sound : (key : List ℕ) (me : ℕ) (all : List Call) (fallen : List Bool) (member : ℕ) (fall : Option NamedFloor)
-    → ((m : ℕ) → slice_index_or fallen m false ≡ true → HasGoneBack key me all m) → ((floor : NamedFloor) → fall ≡ Some floor → WentBack key me all member floor.name)
-    → (m : ℕ) → slice_index_or (with_fallen fallen member fall) m false ≡ true → HasGoneBack key me all m
-fallen_sound key me all fallen member None old fell = old
-fallen_sound key me all fallen member (Some floor) old fell = λ m is. elim (at_set fallen member m true false) [
+fallen_sound : (key : List ℕ) (known : List Bool) (me : ℕ) (all : List Call) (fallen : List Bool) (member : ℕ) (fall : Option NamedFloor)
+    → ((m : ℕ) → slice_index_or fallen m false ≡ true → HasGoneBack key known me all m) → ((floor : NamedFloor) → fall ≡ Some floor → WentBack key me all member floor.name)
+    → (m : ℕ) → slice_index_or (with_fallen fallen member fall) m false ≡ true → HasGoneBack key known me all m
+fallen_sound key known me all fallen member None old fell = old
+fallen_sound key known me all fallen member (Some floor) old fell = λ m is. elim (at_set fallen member m true false) [
   | inl same ↦ old m (sym same ∙ is)
-  | inr hit ↦ subst (HasGoneBack key me all) hit.0 (floor.name, fell floor refl)
+  | inr hit ↦ subst (HasGoneBack key known me all) hit.0 (inr (floor.name, fell floor refl))
 ]
 
-pub taken : (key : List ℕ) (names : List (List ℕ)) (me : ℕ) (all : List Call) (claims : ClaimsRecord) (member : ℕ) (head : Head) (floors : List NamedFloor) → head.from ≡ member → 1 ≤ member → member ≤ 9
-    → ((floor : NamedFloor) → Among floors floor → IsTold key me all head floor) → AreSound key names me all claims
-    → AreTaken key names me all member (claims_after claims names member head.boot floors) (falls claims names member head.boot floors)
-taken key names me all claims member head floors from low high told s = by_boot (is_older claims member head.boot) refl
+pub taken : (key : List ℕ) (known : List Bool) (names : List (List ℕ)) (me : ℕ) (all : List Call) (claims : ClaimsRecord) (member : ℕ) (head : Head) (floors : List NamedFloor) → head.from ≡ member → 1 ≤ member → member ≤ 9
+    → ((floor : NamedFloor) → Among floors floor → IsTold key me all head floor) → AreSound key known names me all claims
+    → AreTaken key known names me all member (claims_after claims names member head.boot floors) (falls claims names member head.boot floors)
+taken key known names me all claims member head floors from low high told s = by_boot (is_older claims member head.boot) refl
   where
     boots : List ℕ
     boots = slice_set claims.boots member head.boot
 
-    by_boot : (older : Bool) → is_older claims member head.boot ≡ older → AreTaken key names me all member
+    by_boot : (older : Bool) → is_older claims member head.boot ≡ older → AreTaken key known names me all member
         (cond older claims (record {
           boots = boots;
           fallen = with_fallen claims.fallen member (first_fall names member head.boot claims.kept floors);
@@ -261,7 +257,7 @@ taken key names me all claims member head floors from low high told s = by_boot 
           sound = record {
             places = length-set claims.boots member head.boot ∙ s.places;
             backed = t.backed;
-            fallen = fallen_sound key me all claims.fallen member (first_fall names member head.boot claims.kept floors) s.fallen t.fell;
+            fallen = fallen_sound key known me all claims.fallen member (first_fall names member head.boot claims.kept floors) s.fallen t.fell;
           };
           fell = t.fell;
         }

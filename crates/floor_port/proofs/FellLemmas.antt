@@ -182,14 +182,18 @@ untold_more p calls call fells ten untold =
     })
 
 -- a call that the record of a port notes
-pub untold_noted : (below : Option (List PortEvent)) (p u : PackerRecord) (before now : Record) (call : Call) (fells new : List Fell) → IsAfter below p (at_start p before.floors) before.calls
-    → AreUntold fells (fells_over (at_start p before.floors) before.calls) → now ≡ record before { calls = before.calls ++ call ∷ [] } → u ≡ after p call → new ≡ with_fell fells (fell_in p call)
-    → AreUntold new (fells_over (at_start u now.floors) now.calls)
-untold_noted below p u before now call fells new a untold noted is new_is =
-    subst (λ (r : Record). AreUntold new (fells_over (at_start u r.floors) r.calls)) (sym noted)
-    (subst (λ (x : PackerRecord). AreUntold new (fells_over x (before.calls ++ call ∷ []))) (sym (ap (λ (x : PackerRecord). at_start x before.floors) is ∙ same_start p call before.floors))
-    (subst (λ (l : List Fell). AreUntold l (fells_over (at_start p before.floors) (before.calls ++ call ∷ []))) (sym (new_is ∙ ap (λ (x : PackerRecord). with_fell fells (fell_in x call)) a.packer_is))
-    (untold_more (at_start p before.floors) before.calls call fells refl untold)))
+pub untold_noted : (below : Option (List PortEvent)) (p u : PackerRecord) (before now : Record) (call : Call) (fells new : List Fell) → IsAfter below p (at_start p before.start) before.calls → length before.start.gone_back ≡ 10
+    → AreUntold fells (fells_over (at_start p before.start) before.calls) → now ≡ record before { calls = before.calls ++ call ∷ [] } → u ≡ after p call → new ≡ with_fell fells (fell_in p call)
+    → AreUntold new (fells_over (at_start u now.start) now.calls)
+untold_noted below p u before now call fells new a ten untold noted is new_is =
+    subst (λ (r : Record). AreUntold new (fells_over (at_start u r.start) r.calls)) (sym noted)
+    (subst (λ (x : PackerRecord). AreUntold new (fells_over x (before.calls ++ call ∷ []))) (sym (ap (λ (x : PackerRecord). at_start x before.start) is ∙ same_start p call before.start))
+    (subst (λ (l : List Fell). AreUntold l (fells_over (at_start p before.start) (before.calls ++ call ∷ []))) (sym (new_is ∙ ap (λ (x : PackerRecord). with_fell fells (fell_in x call)) a.packer_is))
+    (untold_more (at_start p before.start) before.calls call fells ten untold)))
+
+-- the members that are known at the start to have gone back stay the same
+pub places_noted : (before now : Record) (calls : List Call) → length before.start.gone_back ≡ 10 → now ≡ record before { calls = calls } → length now.start.gone_back ≡ 10
+places_noted before now calls ten noted = ap (λ (r : Record). length r.start.gone_back) noted ∙ ten
 
 -- the log took the first of them
 pub untold_taken : (fells all : List Fell) → AreUntold fells all → AreUntold (drop 1 fells) all

@@ -11,14 +11,14 @@ use Rattle.named_wire.specs.declared.head.Head.{Head}
 use Rattle.floor_port.specs.Floors.{floor_bytes, told_in}
 use Rattle.node_log.specs.declared.gatekeeper.Fell.{Fell}
 use Rattle.floor_port.specs.Claims.{ClaimsRecord, claims_after, fell_of, is_fallen, new_claims, no_claim, place_of}
-use Rattle.floor_port.specs.Packer.{PackerRecord, after_datagram, after_held, bytes_of, bytes_or, fall_by, fell_by, first_bytes, first_of, first_told, floor_head, floors_read, member_bytes, new_packer, tells_floors, told_by, with_claims, with_head, with_others}
+use Rattle.floor_port.specs.Packer.{PackerRecord, StartRecord, after_datagram, after_held, bytes_of, bytes_or, fall_by, fell_by, first_bytes, first_of, first_told, floor_head, floors_read, member_bytes, new_packer, tells_floors, told_by, with_claims, with_head, with_others}
 use Rattle.floor_port.specs.Pace.{after_heard}
-use Rattle.floor_port.specs.Promises.{Among, HandsIn, IsTold, WentBack}
+use Rattle.floor_port.specs.Promises.{Among, HandsIn, HasGoneBack, IsTold, WentBack}
 use Rattle.floor_port.specs.Rows.{after_floor, after_news, is_news, news}
 use Rattle.floor_port.specs.Runs.{Call, Came, Left, Offer, after, fell_before, fell_in, fells_over, handed, handed_events, may_call, may_make}
 use Rattle.floor_port.specs.declared.floor.NamedFloor.{NamedFloor}
-use Rattle.floor_port.proofs.CallLemmas.{same_start}
-use Rattle.floor_port.proofs.ClaimLemmas.{AreSound, AreTaken, HasGoneBack, IsBacked, sender_bounds, taken}
+use Rattle.floor_port.proofs.CallLemmas.{no_start, same_start}
+use Rattle.floor_port.proofs.ClaimLemmas.{AreSound, AreTaken, IsBacked, sender_bounds, taken}
 
 abbrev present : {A : Type 0} → A → Option A
 present x = Some x
@@ -121,22 +121,7 @@ told_news : (p : PackerRecord) (all : List Call) (member : ℕ) (bytes : List �
     → AreTold p.key p.me all (floor_head told.0) (news p.rows.names p.rows.known told.1)
 told_news p all member bytes told e came = λ floor h. told_floors p all member bytes told e came floor (news_among p.rows.names p.rows.known told.1 floor h)
 
--- ---- members that went back
-
-abbrev IsSoundAt : PackerRecord → List Call → ClaimsRecord → Type 0
-IsSoundAt p all claims = AreSound p.key p.rows.names p.me all claims
-
--- the claims after the floors of a datagram that came
-taken_floors : (p : PackerRecord) (all : List Call) (member : ℕ) (bytes : List ℕ) (told : Option (Head × List NamedFloor)) → told_by p member bytes ≡ told → Among all (Came (from_member member bytes))
-    → IsSoundAt p all p.claims → AreTaken p.key p.rows.names p.me all member (with_claims p member told).claims (fall_by p member told)
-taken_floors p all member bytes None e came sound = record { sound = sound; fell = λ floor is. absurd cc }
-taken_floors p all member bytes (Some told) e came sound =
-    let s = sent_parts p.key member p.me bytes told e in
-    let bounds = sender_bounds p.key bytes told.0 s.body s.reads in
-    let low = bounds.0 in
-    let high = bounds.1 in
-    let from = s.from_is in
-    taken p.key p.rows.names p.me all p.claims member (floor_head told.0) told.1 from (omega (arith, low, from)) (omega (arith, high, from)) (told_floors p all member bytes told e came) sound
+-- ---- the claims after a datagram
 
 others_claims : (p : PackerRecord) (head : Head) (floors : List NamedFloor) → (with_others p head floors).claims ≡ p.claims
 others_claims p head [] = refl
@@ -148,230 +133,252 @@ floors_claims p member None None = refl
 floors_claims p member (Some told) None =
     others_claims (record p { pace = after_heard p.pace member (length p.rows.told); rows = after_news p.rows told.1 }) (floor_head told.0) (news p.rows.names p.rows.known told.1)
 
-sound_datagram : (p : PackerRecord) (all : List Call) (member : ℕ) (bytes : List ℕ) → Among all (Came (from_member member bytes)) → IsSoundAt p all p.claims
-    → IsSoundAt p all (after_datagram p member (told_by p member bytes)).claims
-sound_datagram p all member bytes came sound = go (is_fallen p.claims member)
-  where
-    told : Option (Head × List NamedFloor)
-    told = told_by p member bytes
+-- ---- members that went back
 
-    go : (fallen : Bool) → IsSoundAt p all (cond fallen p (after_held (with_claims p member told) member told (fall_by p member told))).claims
-    go true = sound
-    go false = subst (IsSoundAt p all) (sym (floors_claims (with_claims p member told) member told (fall_by p member told))) (taken_floors p all member bytes told refl came sound).sound
+-- some members are known at the start to have gone back
+module _ (known : List Bool) where
+  abbrev IsSoundAt : PackerRecord → List Call → ClaimsRecord → Type 0
+  IsSoundAt p all claims = AreSound p.key known p.rows.names p.me all claims
 
-sound_one : (p : PackerRecord) (all : List Call) (call : Call) → Among all call → IsSoundAt p all p.claims → IsSoundAt p all (after p call).claims
-sound_one p all (Came (Received (Peer member) bytes)) made sound = sound_datagram p all member bytes made sound
-sound_one p all (Came (Received (Client number) bytes)) made sound = sound
-sound_one p all (Came Quiet) made sound = sound
-sound_one p all (Came Faulted) made sound = sound
-sound_one p all (Came (Offered to bytes)) made sound = sound
-sound_one p all Left made sound = sound
-sound_one p all (Offer (Peer member) bytes) made sound = sound
-sound_one p all (Offer (Client number) bytes) made sound = sound
+  -- the claims after the floors of a datagram that came
+  taken_floors : (p : PackerRecord) (all : List Call) (member : ℕ) (bytes : List ℕ) (told : Option (Head × List NamedFloor)) → told_by p member bytes ≡ told → Among all (Came (from_member member bytes))
+      → IsSoundAt p all p.claims → AreTaken p.key known p.rows.names p.me all member (with_claims p member told).claims (fall_by p member told)
+  taken_floors p all member bytes None e came sound = record { sound = sound; fell = λ floor is. absurd cc }
+  taken_floors p all member bytes (Some told) e came sound =
+      let s = sent_parts p.key member p.me bytes told e in
+      let bounds = sender_bounds p.key bytes told.0 s.body s.reads in
+      let low = bounds.0 in
+      let high = bounds.1 in
+      let from = s.from_is in
+      taken p.key known p.rows.names p.me all p.claims member (floor_head told.0) told.1 from (omega (arith, low, from)) (omega (arith, high, from)) (told_floors p all member bytes told e came) sound
 
-sound_after : (p : PackerRecord) (all : List Call) (call : Call) → Among all call → IsSoundAt p all p.claims → IsSoundAt (after p call) all (after p call).claims
-sound_after p all call made sound =
-    let u = after p call in
-    let key : u.key ≡ p.key = ap (λ (x : PackerRecord). x.key) (same_start p call []) in
-    let names : u.rows.names ≡ p.rows.names = ap (λ (x : PackerRecord). x.rows.names) (same_start p call []) in
-    let me : u.me ≡ p.me = ap (λ (x : PackerRecord). x.me) (same_start p call []) in
-    subst (λ (k : List ℕ). AreSound k u.rows.names u.me all u.claims) (sym key)
-    (subst (λ (n : List (List ℕ)). AreSound p.key n u.me all u.claims) (sym names)
-    (subst (λ (m : ℕ). AreSound p.key p.rows.names m all u.claims) (sym me) (sound_one p all call made sound)))
+  sound_datagram : (p : PackerRecord) (all : List Call) (member : ℕ) (bytes : List ℕ) → Among all (Came (from_member member bytes)) → IsSoundAt p all p.claims
+      → IsSoundAt p all (after_datagram p member (told_by p member bytes)).claims
+  sound_datagram p all member bytes came sound = go (is_fallen p.claims member)
+    where
+      told : Option (Head × List NamedFloor)
+      told = told_by p member bytes
 
--- at the start
-none_fallen : (member : ℕ) → slice_index_or (replicate 10 false) member false ≡ false
-none_fallen member = go (ltb member 10) refl
+      go : (fallen : Bool) → IsSoundAt p all (cond fallen p (after_held (with_claims p member told) member told (fall_by p member told))).claims
+      go true = sound
+      go false = subst (IsSoundAt p all) (sym (floors_claims (with_claims p member told) member told (fall_by p member told))) (taken_floors p all member bytes told refl came sound).sound
+
+  sound_one : (p : PackerRecord) (all : List Call) (call : Call) → Among all call → IsSoundAt p all p.claims → IsSoundAt p all (after p call).claims
+  sound_one p all (Came (Received (Peer member) bytes)) made sound = sound_datagram p all member bytes made sound
+  sound_one p all (Came (Received (Client number) bytes)) made sound = sound
+  sound_one p all (Came Quiet) made sound = sound
+  sound_one p all (Came Faulted) made sound = sound
+  sound_one p all (Came (Offered to bytes)) made sound = sound
+  sound_one p all Left made sound = sound
+  sound_one p all (Offer (Peer member) bytes) made sound = sound
+  sound_one p all (Offer (Client number) bytes) made sound = sound
+
+  sound_after : (p : PackerRecord) (all : List Call) (call : Call) → Among all call → IsSoundAt p all p.claims → IsSoundAt (after p call) all (after p call).claims
+  sound_after p all call made sound =
+      let u = after p call in
+      let key : u.key ≡ p.key = ap (λ (x : PackerRecord). x.key) (same_start p call no_start) in
+      let names : u.rows.names ≡ p.rows.names = ap (λ (x : PackerRecord). x.rows.names) (same_start p call no_start) in
+      let me : u.me ≡ p.me = ap (λ (x : PackerRecord). x.me) (same_start p call no_start) in
+      subst (λ (k : List ℕ). AreSound k known u.rows.names u.me all u.claims) (sym key)
+      (subst (λ (n : List (List ℕ)). AreSound p.key known n u.me all u.claims) (sym names)
+      (subst (λ (m : ℕ). AreSound p.key known p.rows.names m all u.claims) (sym me) (sound_one p all call made sound)))
+
+  -- at the start
+  none_kept : (count place : ℕ) → slice_index_or (replicate count no_claim) place no_claim ≡ no_claim
+  none_kept zero place = refl
+  none_kept (suc count) zero = refl
+  none_kept (suc count) (suc place) = none_kept count place
+
+  sound_start : (key : List ℕ) (names : List (List ℕ)) (me : ℕ) (all : List Call) (rows : ℕ) → AreSound key known names me all (new_claims known rows)
+  sound_start key names me all rows = record {
+    places = refl;
+    backed = λ row member low high. subst (IsBacked key names me all row member (slice_index (replicate 10 0) member)) (sym (none_kept (9 * rows) (place_of row member)))
+        (record { boot_is = omega arith; told = inl refl });
+    fallen = λ member is. inl is;
+  }
+
+  -- ---- one call
+
+  -- the first of some news is handed in, or the datagram itself
+  hands_first : (key : List ℕ) (me : ℕ) (all : List Call) (member : ℕ) (bytes : List ℕ) (head : Head) (floors : List NamedFloor) → Among all (Came (from_member member bytes)) → head.from ≡ member
+      → AreTold key me all head floors → HandsIn key known me all (from_member member (bytes_or (first_of key head floors) bytes))
+  hands_first key me all member bytes head [] came from told = inl came
+  hands_first key me all member bytes head (floor ∷ floors) came from told =
+      inr (inr (inl (record {
+        head = head;
+        floor = floor;
+        is_told = told floor (inl refl);
+        event_is = ap (λ (n : ℕ). from_member n (datagram_bytes key head (floor_bytes floor))) (sym from);
+      })))
+
+  hands_told : (p : PackerRecord) (all : List Call) (member : ℕ) (bytes : List ℕ) (told : Option (Head × List NamedFloor)) → told_by p member bytes ≡ told → Among all (Came (from_member member bytes))
+      → HandsIn p.key known p.me all (from_member member (bytes_or (first_told p told) bytes))
+  hands_told p all member bytes None e came = inl came
+  hands_told p all member bytes (Some told) e came =
+      let s = sent_parts p.key member p.me bytes told e in
+      hands_first p.key p.me all member bytes (floor_head told.0) (news p.rows.names p.rows.known told.1) came s.from_is (told_news p all member bytes told e came)
+
+  -- a datagram of a member that went back
+  hands_none : (key : List ℕ) (me : ℕ) (all : List Call) (member : ℕ) (bytes : List ℕ) → Among all (Came (from_member member bytes)) → HasGoneBack key known me all member → HandsIn key known me all (from_member member [])
+  hands_none key me all member bytes came back =
+      inr (inr (inr (record { member = member; datagram = bytes; came = came; went_back = back; event_is = refl })))
+
+  hands_datagram : (p : PackerRecord) (all : List Call) (member : ℕ) (bytes : List ℕ) → Among all (Came (from_member member bytes)) → IsSoundAt p all p.claims
+      → HandsIn p.key known p.me all (from_member member (member_bytes p member bytes))
+  hands_datagram p all member bytes came sound = by_fallen (is_fallen p.claims member) refl
+    where
+      told : Option (Head × List NamedFloor)
+      told = told_by p member bytes
+
+      by_fall : (fall : Option NamedFloor) → fall_by p member told ≡ fall → HandsIn p.key known p.me all (from_member member (bytes_or (bytes_of p told fall) bytes))
+      by_fall None is = hands_told p all member bytes told refl came
+      by_fall (Some floor) is = hands_none p.key p.me all member bytes came (inr (floor.name, (taken_floors p all member bytes told refl came sound).fell floor is))
+
+      by_fallen : (fallen : Bool) → is_fallen p.claims member ≡ fallen
+          → HandsIn p.key known p.me all (from_member member (bytes_or (cond fallen (Some []) (bytes_of p told (fall_by p member told))) bytes))
+      by_fallen true is = hands_none p.key p.me all member bytes came (sound.fallen member is)
+      by_fallen false is = by_fall (fall_by p member told) refl
+
+  hands_left : (key : List ℕ) (me : ℕ) (all : List Call) (head : Head) (floors : List NamedFloor) → leb 1 (length floors) ≡ true → AreTold key me all head floors
+      → HandsIn key known me all (from_member head.from (first_bytes key head floors))
+  hands_left key me all head [] some told = absurd (true≢false (sym some))
+  hands_left key me all head (floor ∷ floors) some told = inr (inr (inl (record { head = head; floor = floor; is_told = told floor (inl refl); event_is = refl })))
+
+  hands_one : (p : PackerRecord) (all : List Call) (call : Call) → may_call p call ≡ true → Among all call → IsSoundAt p all p.claims → AreTold p.key p.me all p.pending.head p.pending.floors
+      → HandsIn p.key known p.me all (handed p call)
+  hands_one p all (Came (Received (Peer member) bytes)) may made sound told = hands_datagram p all member bytes made sound
+  hands_one p all (Came (Received (Client number) bytes)) may made sound told = inl made
+  hands_one p all (Came Quiet) may made sound told = inl made
+  hands_one p all (Came Faulted) may made sound told = inl made
+  hands_one p all (Came (Offered to bytes)) may made sound told = inl made
+  hands_one p all Left may made sound told = hands_left p.key p.me all p.pending.head p.pending.floors may told
+  hands_one p all (Offer to bytes) may made sound told = inr (inl (record { to = to; bytes = bytes; event_is = refl; is_offered = made }))
+
+  -- ---- the floors that are left after one call
+
+  abbrev KeepsTold : PackerRecord → List Call → PackerRecord → Type 0
+  KeepsTold p all u = AreTold p.key p.me all u.pending.head u.pending.floors
+
+  left_others : (p : PackerRecord) (key : List ℕ) (me : ℕ) (all : List Call) (head : Head) (floors : List NamedFloor) → AreTold key me all p.pending.head p.pending.floors → AreTold key me all head floors
+      → AreTold key me all (with_others p head floors).pending.head (with_others p head floors).pending.floors
+  left_others p key me all head [] old told = old
+  left_others p key me all head (one ∷ floors) old told = λ floor h. told floor (inr h)
+
+  left_told : (p : PackerRecord) (all : List Call) (member : ℕ) (bytes : List ℕ) (told : Option (Head × List NamedFloor)) (fall : Option NamedFloor) → told_by p member bytes ≡ told
+      → Among all (Came (from_member member bytes)) → AreTold p.key p.me all p.pending.head p.pending.floors → KeepsTold p all (after_held (with_claims p member told) member told fall)
+  left_told p all member bytes told (Some floor) e came old = λ one h. absurd h
+  left_told p all member bytes None None e came old = old
+  left_told p all member bytes (Some told) None e came old =
+      left_others (record p {
+        claims = claims_after p.claims p.rows.names member told.0.boot told.1;
+        pace = after_heard p.pace member (length p.rows.told);
+        rows = after_news p.rows told.1;
+      }) p.key p.me all (floor_head told.0) (news p.rows.names p.rows.known told.1) old
+      (told_news p all member bytes told e came)
+
+  left_datagram : (p : PackerRecord) (all : List Call) (member : ℕ) (bytes : List ℕ) → Among all (Came (from_member member bytes)) → AreTold p.key p.me all p.pending.head p.pending.floors
+      → KeepsTold p all (after_datagram p member (told_by p member bytes))
+  left_datagram p all member bytes came old = go (is_fallen p.claims member)
+    where
+      told : Option (Head × List NamedFloor)
+      told = told_by p member bytes
+
+      go : (fallen : Bool) → KeepsTold p all (cond fallen p (after_held (with_claims p member told) member told (fall_by p member told)))
+      go true = old
+      go false = left_told p all member bytes told (fall_by p member told) refl came old
+
+  left_one : (p : PackerRecord) (all : List Call) (call : Call) → Among all call → AreTold p.key p.me all p.pending.head p.pending.floors → KeepsTold p all (after p call)
+  left_one p all (Came (Received (Peer member) bytes)) made told = left_datagram p all member bytes made told
+  left_one p all (Came (Received (Client number) bytes)) made told = told
+  left_one p all (Came Quiet) made told = told
+  left_one p all (Came Faulted) made told = told
+  left_one p all (Came (Offered to bytes)) made told = told
+  left_one p all Left made told = λ floor h. told floor (rest_among p.pending.floors floor h)
+  left_one p all (Offer (Peer member) bytes) made told = told
+  left_one p all (Offer (Client number) bytes) made told = told
+
+  -- ---- all calls
+
+  hands_over : (p : PackerRecord) (all calls : List Call) → ((call : Call) → Among calls call → Among all call) → may_make p calls ≡ true → IsSoundAt p all p.claims
+      → AreTold p.key p.me all p.pending.head p.pending.floors → (event : PortEvent) → Among (handed_events p calls) event → HandsIn p.key known p.me all event
+  hands_over p all [] made may sound told event h = absurd h
+  hands_over p all (call ∷ calls) made may sound told event (inl is) =
+      subst (HandsIn p.key known p.me all) is (hands_one p all call (and_parts (may_call p call) (may_make (after p call) calls) may).0 (made call (inl refl)) sound told)
+  hands_over p all (call ∷ calls) made may sound told event (inr later) =
+      let u = after p call in
+      let key : u.key ≡ p.key = ap (λ (x : PackerRecord). x.key) (same_start p call no_start) in
+      let me : u.me ≡ p.me = ap (λ (x : PackerRecord). x.me) (same_start p call no_start) in
+      let left : AreTold u.key u.me all u.pending.head u.pending.floors =
+      subst (λ (k : List ℕ). AreTold k u.me all u.pending.head u.pending.floors) (sym key)
+      (subst (λ (m : ℕ). AreTold p.key m all u.pending.head u.pending.floors) (sym me) (left_one p all call (made call (inl refl)) told)) in
+      let kept = sound_after p all call (made call (inl refl)) sound in
+      subst (λ (k : List ℕ). HandsIn k known p.me all event) key
+      (subst (λ (m : ℕ). HandsIn u.key known m all event) me
+      (hands_over u all calls (λ one a. made one (inr a)) (and_parts (may_call p call) (may_make u calls) may).1 kept left event later))
+
+  -- ---- the falls that a log is told of
+
+  fell_one : (p : PackerRecord) (all : List Call) (member : ℕ) (bytes : List ℕ) → Among all (Came (from_member member bytes)) → IsSoundAt p all p.claims
+      → (fell : Fell) → fell_by p member (told_by p member bytes) ≡ Some fell → WentBack p.key p.me all fell.member fell.name
+  fell_one p all member bytes came sound fell e = by_fallen (is_fallen p.claims member) e
+    where
+      told : Option (Head × List NamedFloor)
+      told = told_by p member bytes
+
+      by_fall : (fall : Option NamedFloor) → fall_by p member told ≡ fall → fell_of member fall ≡ Some fell → WentBack p.key p.me all fell.member fell.name
+      by_fall None is same = absurd cc
+      by_fall (Some floor) is same =
+          subst (λ (f : Fell). WentBack p.key p.me all f.member f.name) (some_fell (fell_with member floor.name) fell same)
+          ((taken_floors p all member bytes told refl came sound).fell floor is)
+
+      by_fallen : (fallen : Bool) → cond fallen None (fell_of member (fall_by p member told)) ≡ Some fell → WentBack p.key p.me all fell.member fell.name
+      by_fallen true same = absurd cc
+      by_fallen false same = by_fall (fall_by p member told) refl same
+
+  fell_call : (p : PackerRecord) (all : List Call) (call : Call) → Among all call → IsSoundAt p all p.claims → (fell : Fell) → fell_in p call ≡ Some fell → WentBack p.key p.me all fell.member fell.name
+  fell_call p all (Came (Received (Peer member) bytes)) made sound fell e = fell_one p all member bytes made sound fell e
+  fell_call p all (Came (Received (Client number) bytes)) made sound fell e = absurd cc
+  fell_call p all (Came Quiet) made sound fell e = absurd cc
+  fell_call p all (Came Faulted) made sound fell e = absurd cc
+  fell_call p all (Came (Offered to bytes)) made sound fell e = absurd cc
+  fell_call p all Left made sound fell e = absurd cc
+  fell_call p all (Offer to bytes) made sound fell e = absurd cc
+
+  fells_among : (first : Option Fell) (fells : List Fell) (fell : Fell) → Among (fell_before first fells) fell → (first ≡ Some fell) ⊎ Among fells fell
+  fells_among None fells fell h = inr h
+  fells_among (Some one) fells fell (inl is) = inl (ap present_fell is)
+  fells_among (Some one) fells fell (inr later) = inr later
+
+  fells_back : (p : PackerRecord) (all calls : List Call) → ((call : Call) → Among calls call → Among all call) → IsSoundAt p all p.claims → (fell : Fell) → Among (fells_over p calls) fell
+      → WentBack p.key p.me all fell.member fell.name
+  fells_back p all [] made sound fell h = absurd h
+  fells_back p all (call ∷ calls) made sound fell h = elim (fells_among (fell_in p call) (fells_over (after p call) calls) fell h) [
+    | inl is ↦ fell_call p all call (made call (inl refl)) sound fell is
+    | inr later ↦
+        let u = after p call in
+        let key : u.key ≡ p.key = ap (λ (x : PackerRecord). x.key) (same_start p call no_start) in
+        let me : u.me ≡ p.me = ap (λ (x : PackerRecord). x.me) (same_start p call no_start) in
+        subst (λ (k : List ℕ). WentBack k p.me all fell.member fell.name) key
+        (subst (λ (m : ℕ). WentBack u.key m all fell.member fell.name) me
+        (fells_back u all calls (λ one a. made one (inr a)) (sound_after p all call (made call (inl refl)) sound) fell later))
+  ]
+
+-- ---- from the start
+
+-- nobody is known to have gone back
+pub none_known : (member : ℕ) → slice_index_or (replicate 10 false) member false ≡ false
+none_known member = go (ltb member 10) refl
   where
     go : (low : Bool) → ltb member 10 ≡ low → slice_index_or (replicate 10 false) member false ≡ false
     go true is = get_or-replicate 10 member false false (ltb-true member 10 is)
     go false is = get_or_past (replicate 10 false) member false (ltb-false member 10 is)
 
-none_kept : (count place : ℕ) → slice_index_or (replicate count no_claim) place no_claim ≡ no_claim
-none_kept zero place = refl
-none_kept (suc count) zero = refl
-none_kept (suc count) (suc place) = none_kept count place
+pub hands_law : (key : List ℕ) (names : List (List ℕ)) (me boot members : ℕ) (start : StartRecord) (calls : List Call) (event : PortEvent) → may_make (new_packer key names me boot members start) calls ≡ true
+    → Among (handed_events (new_packer key names me boot members start) calls) event → HandsIn key start.gone_back me calls event
+hands_law key names me boot members start calls event may h =
+    hands_over start.gone_back (new_packer key names me boot members start) calls calls (λ call a. a) may (sound_start start.gone_back key names me calls (length start.floors)) (λ floor a. absurd a) event h
 
-sound_start : (key : List ℕ) (names : List (List ℕ)) (me : ℕ) (all : List Call) (rows : ℕ) → AreSound key names me all (new_claims rows)
-sound_start key names me all rows = record {
-  places = refl;
-  backed = λ row member low high. subst (IsBacked key names me all row member (slice_index (replicate 10 0) member)) (sym (none_kept (9 * rows) (place_of row member)))
-      (record { boot_is = omega arith; told = inl refl });
-  fallen = λ member is. absurd (true≢false (sym is ∙ none_fallen member));
-}
-
--- ---- one call
-
--- the first of some news is handed in, or the datagram itself
-hands_first : (key : List ℕ) (me : ℕ) (all : List Call) (member : ℕ) (bytes : List ℕ) (head : Head) (floors : List NamedFloor) → Among all (Came (from_member member bytes)) → head.from ≡ member
-    → AreTold key me all head floors → HandsIn key me all (from_member member (bytes_or (first_of key head floors) bytes))
-hands_first key me all member bytes head [] came from told = inl came
-hands_first key me all member bytes head (floor ∷ floors) came from told =
-    inr (inr (inl (record {
-      head = head;
-      floor = floor;
-      is_told = told floor (inl refl);
-      event_is = ap (λ (n : ℕ). from_member n (datagram_bytes key head (floor_bytes floor))) (sym from);
-    })))
-
-hands_told : (p : PackerRecord) (all : List Call) (member : ℕ) (bytes : List ℕ) (told : Option (Head × List NamedFloor)) → told_by p member bytes ≡ told → Among all (Came (from_member member bytes))
-    → HandsIn p.key p.me all (from_member member (bytes_or (first_told p told) bytes))
-hands_told p all member bytes None e came = inl came
-hands_told p all member bytes (Some told) e came =
-    let s = sent_parts p.key member p.me bytes told e in
-    hands_first p.key p.me all member bytes (floor_head told.0) (news p.rows.names p.rows.known told.1) came s.from_is (told_news p all member bytes told e came)
-
--- a datagram of a member that went back
-hands_none : (key : List ℕ) (me : ℕ) (all : List Call) (member : ℕ) (bytes : List ℕ) → Among all (Came (from_member member bytes)) → HasGoneBack key me all member → HandsIn key me all (from_member member [])
-hands_none key me all member bytes came back =
-    inr (inr (inr (record { member = member; datagram = bytes; came = came; name = back.0; went_back = back.1; event_is = refl })))
-
-hands_datagram : (p : PackerRecord) (all : List Call) (member : ℕ) (bytes : List ℕ) → Among all (Came (from_member member bytes)) → IsSoundAt p all p.claims
-    → HandsIn p.key p.me all (from_member member (member_bytes p member bytes))
-hands_datagram p all member bytes came sound = by_fallen (is_fallen p.claims member) refl
-  where
-    told : Option (Head × List NamedFloor)
-    told = told_by p member bytes
-
-    by_fall : (fall : Option NamedFloor) → fall_by p member told ≡ fall → HandsIn p.key p.me all (from_member member (bytes_or (bytes_of p told fall) bytes))
-    by_fall None is = hands_told p all member bytes told refl came
-    by_fall (Some floor) is = hands_none p.key p.me all member bytes came (floor.name, (taken_floors p all member bytes told refl came sound).fell floor is)
-
-    by_fallen : (fallen : Bool) → is_fallen p.claims member ≡ fallen
-        → HandsIn p.key p.me all (from_member member (bytes_or (cond fallen (Some []) (bytes_of p told (fall_by p member told))) bytes))
-    by_fallen true is = hands_none p.key p.me all member bytes came (sound.fallen member is)
-    by_fallen false is = by_fall (fall_by p member told) refl
-
-hands_left : (key : List ℕ) (me : ℕ) (all : List Call) (head : Head) (floors : List NamedFloor) → leb 1 (length floors) ≡ true → AreTold key me all head floors
-    → HandsIn key me all (from_member head.from (first_bytes key head floors))
-hands_left key me all head [] some told = absurd (true≢false (sym some))
-hands_left key me all head (floor ∷ floors) some told = inr (inr (inl (record { head = head; floor = floor; is_told = told floor (inl refl); event_is = refl })))
-
-hands_one : (p : PackerRecord) (all : List Call) (call : Call) → may_call p call ≡ true → Among all call → IsSoundAt p all p.claims → AreTold p.key p.me all p.pending.head p.pending.floors
-    → HandsIn p.key p.me all (handed p call)
-hands_one p all (Came (Received (Peer member) bytes)) may made sound told = hands_datagram p all member bytes made sound
-hands_one p all (Came (Received (Client number) bytes)) may made sound told = inl made
-hands_one p all (Came Quiet) may made sound told = inl made
-hands_one p all (Came Faulted) may made sound told = inl made
-hands_one p all (Came (Offered to bytes)) may made sound told = inl made
-hands_one p all Left may made sound told = hands_left p.key p.me all p.pending.head p.pending.floors may told
-hands_one p all (Offer to bytes) may made sound told = inr (inl (record { to = to; bytes = bytes; event_is = refl; is_offered = made }))
-
--- ---- the floors that are left after one call
-
-abbrev KeepsTold : PackerRecord → List Call → PackerRecord → Type 0
-KeepsTold p all u = AreTold p.key p.me all u.pending.head u.pending.floors
-
-left_others : (p : PackerRecord) (key : List ℕ) (me : ℕ) (all : List Call) (head : Head) (floors : List NamedFloor) → AreTold key me all p.pending.head p.pending.floors → AreTold key me all head floors
-    → AreTold key me all (with_others p head floors).pending.head (with_others p head floors).pending.floors
-left_others p key me all head [] old told = old
-left_others p key me all head (one ∷ floors) old told = λ floor h. told floor (inr h)
-
-left_told : (p : PackerRecord) (all : List Call) (member : ℕ) (bytes : List ℕ) (told : Option (Head × List NamedFloor)) (fall : Option NamedFloor) → told_by p member bytes ≡ told
-    → Among all (Came (from_member member bytes)) → AreTold p.key p.me all p.pending.head p.pending.floors → KeepsTold p all (after_held (with_claims p member told) member told fall)
-left_told p all member bytes told (Some floor) e came old = λ one h. absurd h
-left_told p all member bytes None None e came old = old
-left_told p all member bytes (Some told) None e came old =
-    left_others (record p {
-      claims = claims_after p.claims p.rows.names member told.0.boot told.1;
-      pace = after_heard p.pace member (length p.rows.told);
-      rows = after_news p.rows told.1;
-    }) p.key p.me all (floor_head told.0) (news p.rows.names p.rows.known told.1) old
-    (told_news p all member bytes told e came)
-
-left_datagram : (p : PackerRecord) (all : List Call) (member : ℕ) (bytes : List ℕ) → Among all (Came (from_member member bytes)) → AreTold p.key p.me all p.pending.head p.pending.floors
-    → KeepsTold p all (after_datagram p member (told_by p member bytes))
-left_datagram p all member bytes came old = go (is_fallen p.claims member)
-  where
-    told : Option (Head × List NamedFloor)
-    told = told_by p member bytes
-
-    go : (fallen : Bool) → KeepsTold p all (cond fallen p (after_held (with_claims p member told) member told (fall_by p member told)))
-    go true = old
-    go false = left_told p all member bytes told (fall_by p member told) refl came old
-
-left_one : (p : PackerRecord) (all : List Call) (call : Call) → Among all call → AreTold p.key p.me all p.pending.head p.pending.floors → KeepsTold p all (after p call)
-left_one p all (Came (Received (Peer member) bytes)) made told = left_datagram p all member bytes made told
-left_one p all (Came (Received (Client number) bytes)) made told = told
-left_one p all (Came Quiet) made told = told
-left_one p all (Came Faulted) made told = told
-left_one p all (Came (Offered to bytes)) made told = told
-left_one p all Left made told = λ floor h. told floor (rest_among p.pending.floors floor h)
-left_one p all (Offer (Peer member) bytes) made told = told
-left_one p all (Offer (Client number) bytes) made told = told
-
--- ---- all calls
-
-hands_over : (p : PackerRecord) (all calls : List Call) → ((call : Call) → Among calls call → Among all call) → may_make p calls ≡ true → IsSoundAt p all p.claims
-    → AreTold p.key p.me all p.pending.head p.pending.floors → (event : PortEvent) → Among (handed_events p calls) event → HandsIn p.key p.me all event
-hands_over p all [] made may sound told event h = absurd h
-hands_over p all (call ∷ calls) made may sound told event (inl is) =
-    subst (HandsIn p.key p.me all) is (hands_one p all call (and_parts (may_call p call) (may_make (after p call) calls) may).0 (made call (inl refl)) sound told)
-hands_over p all (call ∷ calls) made may sound told event (inr later) =
-    let u = after p call in
-    let key : u.key ≡ p.key = ap (λ (x : PackerRecord). x.key) (same_start p call []) in
-    let me : u.me ≡ p.me = ap (λ (x : PackerRecord). x.me) (same_start p call []) in
-    let left : AreTold u.key u.me all u.pending.head u.pending.floors =
-    subst (λ (k : List ℕ). AreTold k u.me all u.pending.head u.pending.floors) (sym key)
-    (subst (λ (m : ℕ). AreTold p.key m all u.pending.head u.pending.floors) (sym me) (left_one p all call (made call (inl refl)) told)) in
-    let kept = sound_after p all call (made call (inl refl)) sound in
-    subst (λ (k : List ℕ). HandsIn k p.me all event) key
-    (subst (λ (m : ℕ). HandsIn u.key m all event) me
-    (hands_over u all calls (λ one a. made one (inr a)) (and_parts (may_call p call) (may_make u calls) may).1 kept left event later))
-
-pub hands_law : (key : List ℕ) (names : List (List ℕ)) (me boot members : ℕ) (floors : List ℕ) (calls : List Call) (event : PortEvent) → may_make (new_packer key names me boot members floors) calls ≡ true
-    → Among (handed_events (new_packer key names me boot members floors) calls) event → HandsIn key me calls event
-hands_law key names me boot members floors calls event may h =
-    hands_over (new_packer key names me boot members floors) calls calls (λ call a. a) may (sound_start key names me calls (length floors)) (λ floor a. absurd a) event h
-
--- ---- the falls that a log is told of
-
-fell_one : (p : PackerRecord) (all : List Call) (member : ℕ) (bytes : List ℕ) → Among all (Came (from_member member bytes)) → IsSoundAt p all p.claims
-    → (fell : Fell) → fell_by p member (told_by p member bytes) ≡ Some fell → WentBack p.key p.me all fell.member fell.name
-fell_one p all member bytes came sound fell e = by_fallen (is_fallen p.claims member) e
-  where
-    told : Option (Head × List NamedFloor)
-    told = told_by p member bytes
-
-    by_fall : (fall : Option NamedFloor) → fall_by p member told ≡ fall → fell_of member fall ≡ Some fell → WentBack p.key p.me all fell.member fell.name
-    by_fall None is same = absurd cc
-    by_fall (Some floor) is same =
-        subst (λ (f : Fell). WentBack p.key p.me all f.member f.name) (some_fell (fell_with member floor.name) fell same)
-        ((taken_floors p all member bytes told refl came sound).fell floor is)
-
-    by_fallen : (fallen : Bool) → cond fallen None (fell_of member (fall_by p member told)) ≡ Some fell → WentBack p.key p.me all fell.member fell.name
-    by_fallen true same = absurd cc
-    by_fallen false same = by_fall (fall_by p member told) refl same
-
-fell_call : (p : PackerRecord) (all : List Call) (call : Call) → Among all call → IsSoundAt p all p.claims → (fell : Fell) → fell_in p call ≡ Some fell → WentBack p.key p.me all fell.member fell.name
-fell_call p all (Came (Received (Peer member) bytes)) made sound fell e = fell_one p all member bytes made sound fell e
-fell_call p all (Came (Received (Client number) bytes)) made sound fell e = absurd cc
-fell_call p all (Came Quiet) made sound fell e = absurd cc
-fell_call p all (Came Faulted) made sound fell e = absurd cc
-fell_call p all (Came (Offered to bytes)) made sound fell e = absurd cc
-fell_call p all Left made sound fell e = absurd cc
-fell_call p all (Offer to bytes) made sound fell e = absurd cc
-
-fells_among : (first : Option Fell) (fells : List Fell) (fell : Fell) → Among (fell_before first fells) fell → (first ≡ Some fell) ⊎ Among fells fell
-fells_among None fells fell h = inr h
-fells_among (Some one) fells fell (inl is) = inl (ap present_fell is)
-fells_among (Some one) fells fell (inr later) = inr later
-
-fells_back : (p : PackerRecord) (all calls : List Call) → ((call : Call) → Among calls call → Among all call) → IsSoundAt p all p.claims → (fell : Fell) → Among (fells_over p calls) fell
-    → WentBack p.key p.me all fell.member fell.name
-fells_back p all [] made sound fell h = absurd h
-fells_back p all (call ∷ calls) made sound fell h = elim (fells_among (fell_in p call) (fells_over (after p call) calls) fell h) [
-  | inl is ↦ fell_call p all call (made call (inl refl)) sound fell is
-  | inr later ↦
-      let u = after p call in
-      let key : u.key ≡ p.key = ap (λ (x : PackerRecord). x.key) (same_start p call []) in
-      let me : u.me ≡ p.me = ap (λ (x : PackerRecord). x.me) (same_start p call []) in
-      subst (λ (k : List ℕ). WentBack k p.me all fell.member fell.name) key
-      (subst (λ (m : ℕ). WentBack u.key m all fell.member fell.name) me
-      (fells_back u all calls (λ one a. made one (inr a)) (sound_after p all call (made call (inl refl)) sound) fell later))
-]
-
-pub fells_law : (key : List ℕ) (names : List (List ℕ)) (me boot members : ℕ) (floors : List ℕ) (calls : List Call) (fell : Fell)
-    → Among (fells_over (new_packer key names me boot members floors) calls) fell → WentBack key me calls fell.member fell.name
-fells_law key names me boot members floors calls fell h =
-    fells_back (new_packer key names me boot members floors) calls calls (λ call a. a) (sound_start key names me calls (length floors)) fell h
+pub fells_law : (key : List ℕ) (names : List (List ℕ)) (me boot members : ℕ) (start : StartRecord) (calls : List Call) (fell : Fell)
+    → Among (fells_over (new_packer key names me boot members start) calls) fell → WentBack key me calls fell.member fell.name
+fells_law key names me boot members start calls fell h =
+    fells_back start.gone_back (new_packer key names me boot members start) calls calls (λ call a. a) (sound_start start.gone_back key names me calls (length start.floors)) fell h

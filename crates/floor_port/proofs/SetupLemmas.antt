@@ -10,9 +10,9 @@ use Rattle.floor_port.proofs.CallLemmas.{same_start}
 
 -- after one more call, of which the record has the same floors
 pub setup_noted : (p u : PackerRecord) (before now : Record) (call : Call) (old new : Option Setup) → u ≡ after p call
-    → now ≡ record before { calls = before.calls ++ call ∷ [] } → new ≡ old → telling_setup u now.floors new ≡ telling_setup p before.floors old
+    → now ≡ record before { calls = before.calls ++ call ∷ [] } → new ≡ old → telling_setup u now.start new ≡ telling_setup p before.start old
 setup_noted p u before now call old new is noted same =
-    let naming : telling_of u now.floors ≡ telling_of p before.floors =
-    ap (λ (r : Record). telling_of u r.floors) noted ∙ ap (λ (x : PackerRecord). telling_of x before.floors) is
-    ∙ ap (λ (x : PackerRecord). telling_of x before.floors) (same_start p call before.floors) in
-    ap (λ (n : Naming). option_map (under_names n) new) naming ∙ ap (telling_setup p before.floors) same
+    let naming : telling_of u now.start ≡ telling_of p before.start =
+    ap (λ (r : Record). telling_of u r.start) noted ∙ ap (λ (x : PackerRecord). telling_of x before.start) is
+    ∙ ap (λ (x : PackerRecord). telling_of x before.start) (same_start p call before.start) in
+    ap (λ (n : Naming). option_map (under_names n) new) naming ∙ ap (telling_setup p before.start) same

@@ -7,7 +7,7 @@ use Rattle.datagram_port.specs.declared.port.Sender.TheVariants.{Client, Peer}
 use Rattle.named_wire.specs.declared.head.Head.{Head}
 use Rattle.floor_port.specs.Claims.{ClaimsRecord, claims_after, falls, first_fall, is_fallen, is_older, kept_after, with_fallen}
 use Rattle.floor_port.specs.Pace.{after_heard}
-use Rattle.floor_port.specs.Packer.{PackerRecord, after_datagram, after_event, after_held, bytes_of, bytes_or, fall_by, first_bytes, floor_head, handed_in, member_bytes, new_packer, told_by, with_claims, with_others}
+use Rattle.floor_port.specs.Packer.{PackerRecord, StartRecord, after_datagram, after_event, after_held, bytes_of, bytes_or, fall_by, first_bytes, floor_head, handed_in, member_bytes, new_packer, told_by, with_claims, with_others}
 use Rattle.floor_port.specs.Promises.{Among}
 use Rattle.floor_port.specs.Rows.{after_news, news}
 use Rattle.floor_port.specs.Runs.{Call, Came, Left, Offer, after, after_calls, handed, handed_events}
@@ -183,9 +183,9 @@ silent_events p [] m bytes is silent h = absurd h
 silent_events p (call ∷ calls) m bytes is silent (inl e) = silent_event p call m bytes is silent e
 silent_events p (call ∷ calls) m bytes is silent (inr later) = silent_events (after p call) calls m bytes (stays_one p call m is) (silent_one p call silent) later
 
-pub silent_law : (key : List ℕ) (names : List (List ℕ)) (me boot members : ℕ) (floors : List ℕ) (before calls : List Call) (m : ℕ) (bytes : List ℕ)
-    → is_fallen (after_calls (new_packer key names me boot members floors) before).claims m ≡ true
-    → Among (handed_events (after_calls (new_packer key names me boot members floors) before) calls) (Received (Peer m) bytes) → bytes ≡ []
-silent_law key names me boot members floors before calls m bytes is h =
-    let start = new_packer key names me boot members floors in
+pub silent_law : (key : List ℕ) (names : List (List ℕ)) (me boot members : ℕ) (begun : StartRecord) (before calls : List Call) (m : ℕ) (bytes : List ℕ)
+    → is_fallen (after_calls (new_packer key names me boot members begun) before).claims m ≡ true
+    → Among (handed_events (after_calls (new_packer key names me boot members begun) before) calls) (Received (Peer m) bytes) → bytes ≡ []
+silent_law key names me boot members begun before calls m bytes is h =
+    let start = new_packer key names me boot members begun in
     silent_events (after_calls start before) calls m bytes is (silent_after start before (λ one now. inl refl)) h

@@ -10,13 +10,13 @@ use Rattle.named_port.specs.Names.{number_of}
 use Rattle.named_wire.specs.declared.head.Head.{Head}
 use Rattle.floor_port.specs.Floors.{floors_body}
 use Rattle.floor_port.specs.Claims.{is_fallen}
-use Rattle.floor_port.specs.Packer.{PackerRecord, after_datagram, after_held, after_member, after_told, body_of, body_offers, fall_by, floor_head, floors_datagram, member_offer, new_packer, offers_of, told_by, turn_offers, turns_due, with_claims, with_others}
+use Rattle.floor_port.specs.Packer.{PackerRecord, StartRecord, after_datagram, after_held, after_member, after_told, body_of, body_offers, fall_by, floor_head, floors_datagram, member_offer, new_packer, offers_of, told_by, turn_offers, turns_due, with_claims, with_others}
 use Rattle.floor_port.specs.Promises.{Among, IsOwnFloor, IsWitnessed, TellsFloors}
 use Rattle.floor_port.specs.Rows.{RowsRecord, after_floor, after_floors, after_news, after_telling, after_turn, after_turns, after_witness, is_fresh, named_floors, news, next_floors, not_fresh, raised}
 use Rattle.floor_port.specs.Runs.{Call, Came, Left, Offer, after, after_calls, below, below_events, may_call, may_make}
 use Rattle.floor_port.specs.Witness.{witness_of}
 use Rattle.floor_port.specs.declared.floor.NamedFloor.{NamedFloor}
-use Rattle.floor_port.proofs.CallLemmas.{same_start}
+use Rattle.floor_port.proofs.CallLemmas.{no_start, same_start}
 
 abbrev present : {A : Type 0} → A → Option A
 present x = Some x
@@ -377,14 +377,14 @@ offers_over p floors all (call ∷ calls) made may own to bytes h = elim (among_
   | inl front ↦ offer_one p floors all call (and_parts (may_call p call) (may_make (after p call) calls) may).0 (made call (inl refl)) own to bytes front
   | inr back ↦
       let u = after p call in
-      let same = same_start p call [] in
+      let same = same_start p call no_start in
       let own_after : AreOwn u.rows.names floors all u.rows.told =
       subst (λ (s : PackerRecord). AreOwn s.rows.names floors all u.rows.told) (sym same) (own_one p floors all call (made call (inl refl)) own) in
       subst (λ (s : PackerRecord). IsOfNode s floors all to bytes) same
       (offers_over u floors all calls (λ one a. made one (inr a)) (and_parts (may_call p call) (may_make u calls) may).1 own_after to bytes back)
 ]
 
-pub told_law : (key : List ℕ) (names : List (List ℕ)) (me boot members : ℕ) (floors : List ℕ) (calls : List Call) (to : Sender) (bytes : List ℕ) → may_make (new_packer key names me boot members floors) calls ≡ true
-    → Among (below_events (new_packer key names me boot members floors) calls) (Offered to bytes) → Among calls (Offer to bytes) ⊎ TellsFloors key names me boot floors calls to bytes
-told_law key names me boot members floors calls to bytes may h =
-    offers_over (new_packer key names me boot members floors) floors calls calls (λ call a. a) may (λ row value at. inl at) to bytes h
+pub told_law : (key : List ℕ) (names : List (List ℕ)) (me boot members : ℕ) (start : StartRecord) (calls : List Call) (to : Sender) (bytes : List ℕ) → may_make (new_packer key names me boot members start) calls ≡ true
+    → Among (below_events (new_packer key names me boot members start) calls) (Offered to bytes) → Among calls (Offer to bytes) ⊎ TellsFloors key names me boot start.floors calls to bytes
+told_law key names me boot members start calls to bytes may h =
+    offers_over (new_packer key names me boot members start) start.floors calls calls (λ call a. a) may (λ row value at. inl at) to bytes h

@@ -18,12 +18,12 @@ pub record ClaimsRecord : Type 0 where
 abbrev pub no_claim : Claim
 no_claim = record { boot = 0; next = 0 }
 
--- the claims of members that told nothing, over a number of rows
-abbrev pub new_claims : ℕ → ClaimsRecord
-new_claims rows =
-    record { boots = replicate 10 0; fallen = replicate 10 false; kept = replicate (9 * rows) no_claim }
+-- the claims of members that told nothing, of whom some are known to have gone back, over a number of rows
+abbrev pub new_claims : List Bool → ℕ → ClaimsRecord
+new_claims gone_back rows =
+    record { boots = replicate 10 0; fallen = gone_back; kept = replicate (9 * rows) no_claim }
 
--- whether a floor of the member fell
+-- whether a floor of the member fell, or it is known to have gone back
 abbrev pub is_fallen : ClaimsRecord → ℕ → Bool
 is_fallen claims member = slice_index_or claims.fallen member false
 

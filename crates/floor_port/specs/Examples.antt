@@ -1,5 +1,5 @@
 -- A node with a book of three tokens, and what a member tells it. The tags are by Python's hmac.
-use Rattle.std.specs.Prelude.{ℕ, true, false, List, [], ◌∷◌, ◌++◌, replicate, None}
+use Rattle.std.specs.Prelude.{ℕ, Bool, true, false, List, [], ◌∷◌, ◌++◌, replicate, None}
 use Rattle.datagram_port.specs.Port.{PortEvent, Received}
 use Rattle.datagram_port.specs.Setup.{Setup}
 use Rattle.datagram_port.specs.declared.port.Sender.TheVariants.{Peer}
@@ -7,10 +7,11 @@ use Rattle.named_wire.specs.declared.head.Head.{Head}
 use Rattle.named_wire.specs.declared.head.Kind.{Kind}
 use Rattle.named_wire.specs.declared.head.Kind.TheVariants.{Floor}
 use Rattle.vote_wire.specs.Examples.{eight_bytes}
+use Rattle.node_log.specs.Differing.{nobody}
 use Rattle.node_log.specs.declared.gatekeeper.Fell.{Fell}
 use Rattle.floor_port.specs.Claims.{ClaimsRecord, no_claim}
 use Rattle.floor_port.specs.Pace.{PaceRecord}
-use Rattle.floor_port.specs.Packer.{PackerRecord, PendingRecord, new_packer}
+use Rattle.floor_port.specs.Packer.{PackerRecord, PendingRecord, StartRecord, new_packer}
 use Rattle.floor_port.specs.Rows.{RowsRecord}
 use Rattle.floor_port.specs.declared.claims.Claim.{Claim}
 use Rattle.floor_port.specs.declared.floor.NamedFloor.{NamedFloor}
@@ -31,9 +32,21 @@ floor_of byte next = record { name = name_with byte; next = next }
 abbrev pub book : List (List ℕ)
 book = name_with 0xaa ∷ name_with 0xbb ∷ name_with 0xcc ∷ []
 
+-- a start with floors, at which no member is known to have gone back
+abbrev pub start_with : List ℕ → StartRecord
+start_with floors = record { gone_back = nobody; floors = floors }
+
 -- node 2 of three in its boot 5, whose store has the floor 5 of each token
 abbrev pub node_2 : PackerRecord
-node_2 = new_packer zeros book 2 5 3 (replicate 3 5)
+node_2 = new_packer zeros book 2 5 3 (start_with (replicate 3 5))
+
+-- member 1 is known to have gone back
+abbrev pub gone_1 : List Bool
+gone_1 = false ∷ true ∷ replicate 8 false
+
+-- node 2, which knows from its start that member 1 went back
+abbrev pub node_2_knowing : PackerRecord
+node_2_knowing = new_packer zeros book 2 5 3 (record (start_with (replicate 3 5)) { gone_back = gone_1 })
 
 -- a row of the book, with floors of its tokens that the node bears witness to and that it knows
 abbrev pub rows_with : List ℕ → List ℕ → ℕ → RowsRecord
@@ -55,7 +68,7 @@ claim boot next = record { boot = boot; next = next }
 abbrev pub claims_of_1 : ℕ → Claim → Claim → Claim → ClaimsRecord
 claims_of_1 boot first second third = record {
   boots = 0 ∷ boot ∷ replicate 8 0;
-  fallen = replicate 10 false;
+  fallen = nobody;
   kept = first ∷ replicate 8 no_claim ++ second ∷ replicate 8 no_claim ++ third ∷ replicate 8 no_claim;
 }
 

@@ -37,17 +37,23 @@ pub record PackerRecord : Type 0 where
 abbrev pub nothing_pending : ℕ → PendingRecord
 nothing_pending me = record { head = record { kind = Floor; from = 0; to = me; boot = 0 }; floors = [] }
 
--- a packer that was told nothing, of a node whose store has the given floors
-abbrev pub new_packer : List ℕ → List (List ℕ) → ℕ → ℕ → ℕ → List ℕ → PackerRecord
-new_packer key names me boot members floors = record {
+-- What a packer begins with: the members that are known to have gone back, from member 0 to 9, and the floors of its
+-- node's store, in the order of the names.
+pub record StartRecord : Type 0 where
+  pub gone_back : List Bool
+  pub floors : List ℕ
+
+-- a packer that was told nothing
+abbrev pub new_packer : List ℕ → List (List ℕ) → ℕ → ℕ → ℕ → StartRecord → PackerRecord
+new_packer key names me boot members start = record {
   key = key;
   me = me;
   boot = boot;
   members = members;
-  rows = new_rows names floors;
-  pace = new_pace (length floors);
+  rows = new_rows names start.floors;
+  pace = new_pace (length start.floors);
   pending = nothing_pending me;
-  claims = new_claims (length floors);
+  claims = new_claims start.gone_back (length start.floors);
 }
 
 -- ---- floors that the node is told

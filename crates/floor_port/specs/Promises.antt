@@ -1,5 +1,5 @@
 -- What a port that tells floors promises of what it hands in and of what it offers, in all executions.
-use Rattle.std.specs.Prelude.{◌≡◌, ◌⊎◌, ℕ, ◌<◌, ◌≤◌, false, List, [], ◌∷◌, length, slice_get, Some}
+use Rattle.std.specs.Prelude.{◌≡◌, ◌⊎◌, ℕ, ◌<◌, ◌≤◌, Bool, false, true, slice_index_or, List, [], ◌∷◌, length, slice_get, Some}
 use Rattle.datagram_port.specs.Port.{PortEvent, Received, Offered}
 use Rattle.datagram_port.specs.declared.port.Sender.{Sender}
 use Rattle.datagram_port.specs.declared.port.Sender.TheVariants.{Peer}
@@ -62,21 +62,26 @@ pub record IsFloorHanded (key : List ℕ) (me : ℕ) (calls : List Call) (event 
   pub is_told : IsTold key me calls head floor
   pub event_is : event ≡ Received (Peer head.from) (datagram_bytes key head (floor_bytes floor))
 
+-- the member is known at the start to have gone back, or went back by the floors of some token
+abbrev pub HasGoneBack : List ℕ → List Bool → ℕ → List Call → ℕ → Type 0
+HasGoneBack key gone_back me calls member =
+    (slice_index_or gone_back member false ≡ true) ⊎ ((name : List ℕ) × WentBack key me calls member name)
+
 -- a datagram of a member that went back, without its bytes
-pub record IsSilenced (key : List ℕ) (me : ℕ) (calls : List Call) (event : PortEvent) : Type 0 where
+pub record IsSilenced (key : List ℕ) (gone_back : List Bool) (me : ℕ) (calls : List Call) (event : PortEvent)
+    : Type 0 where
   pub member : ℕ
   pub datagram : List ℕ
   pub came : Among calls (Came (Received (Peer member) datagram))
-  pub name : List ℕ
-  pub went_back : WentBack key me calls member name
+  pub went_back : HasGoneBack key gone_back me calls member
   pub event_is : event ≡ Received (Peer member) []
 
 -- an event of a node's port: one that the port below received, an offer of the node, a floor that a member told, or a
 -- datagram of a member that went back, without its bytes
-abbrev pub HandsIn : List ℕ → ℕ → List Call → PortEvent → Type 0
-HandsIn key me calls event =
+abbrev pub HandsIn : List ℕ → List Bool → ℕ → List Call → PortEvent → Type 0
+HandsIn key gone_back me calls event =
     Among calls (Came event)
-    ⊎ (IsOwnOffer calls event ⊎ (IsFloorHanded key me calls event ⊎ IsSilenced key me calls event))
+    ⊎ (IsOwnOffer calls event ⊎ (IsFloorHanded key me calls event ⊎ IsSilenced key gone_back me calls event))
 
 -- ---- what is offered
 

@@ -4,7 +4,7 @@ use Rattle.datagram_port.specs.Port.{PortEvent, Received, Quiet, Faulted, Offere
 use Rattle.datagram_port.specs.declared.port.Sender.{Sender}
 use Rattle.datagram_port.specs.declared.port.Sender.TheVariants.{Peer}
 use Rattle.node_log.specs.declared.gatekeeper.Fell.{Fell}
-use Rattle.floor_port.specs.Packer.{PackerRecord, after_event, after_next, after_offer, fell_at, handed_in, new_packer, next_bytes, told_at}
+use Rattle.floor_port.specs.Packer.{PackerRecord, StartRecord, after_event, after_next, after_offer, fell_at, handed_in, new_packer, next_bytes, told_at}
 
 -- A call of a node's port: the port below received an event, the next floor that was left is handed in, or the node
 -- offered a datagram.
@@ -81,10 +81,9 @@ abbrev pub may_make : PackerRecord → List Call → Bool
 may_make packer [] = true
 may_make packer (call ∷ calls) = may_call packer call && may_make (after packer call) calls
 
--- a packer as it was at its start, when the store had the given floors
-abbrev pub at_start : PackerRecord → List ℕ → PackerRecord
-at_start packer floors =
-    new_packer packer.key packer.rows.names packer.me packer.boot packer.members floors
+-- a packer as it was at its start
+abbrev pub at_start : PackerRecord → StartRecord → PackerRecord
+at_start packer start = new_packer packer.key packer.rows.names packer.me packer.boot packer.members start
 
 -- A port and its packer after calls, from a start at which the port below had no event. If the port below keeps a
 -- record, the record is that of the calls.

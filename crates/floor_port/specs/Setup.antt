@@ -1,19 +1,23 @@
 -- The setup of a port that tells floors.
-use Rattle.std.specs.Prelude.{ℕ, List, ◌∷◌, Option}
+use Rattle.std.specs.Prelude.{ℕ, Bool, if◌then◌else◌, List, ◌∷◌, Option, map}
 use Rattle.std.specs.Option.{option_map}
 use Rattle.datagram_port.specs.Setup.{Naming, Setup, under_names}
-use Rattle.floor_port.specs.Packer.{PackerRecord}
+use Rattle.floor_port.specs.Packer.{PackerRecord, StartRecord}
 
--- What a packer packs by, from a start at which the store had the given floors. Before the names it has a list of the
--- number of members and these floors.
-abbrev pub telling_of : PackerRecord → List ℕ → Naming
-telling_of packer floors = record {
+-- for each member 1 if it is known to have gone back, else 0
+abbrev pub marks_of : List Bool → List ℕ
+marks_of gone_back = map (λ one. if one then 1 else 0) gone_back
+
+-- What a packer packs by, from its start. Before the names it has a list of the number of members and the floors of the
+-- start, and a list of the members that are known to have gone back.
+abbrev pub telling_of : PackerRecord → StartRecord → Naming
+telling_of packer start = record {
   key = packer.key;
-  names = (packer.members ∷ floors) ∷ packer.rows.names;
+  names = (packer.members ∷ start.floors) ∷ marks_of start.gone_back ∷ packer.rows.names;
   me = packer.me;
   boot = packer.boot;
 }
 
 -- the setup of a port with the packer over a port with the given setup
-abbrev pub telling_setup : PackerRecord → List ℕ → Option Setup → Option Setup
-telling_setup packer floors below = option_map (under_names (telling_of packer floors)) below
+abbrev pub telling_setup : PackerRecord → StartRecord → Option Setup → Option Setup
+telling_setup packer start below = option_map (under_names (telling_of packer start)) below

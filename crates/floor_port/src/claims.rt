@@ -1,19 +1,17 @@
 //! What the members told last of the floors of a node's rows.
 
-ghost use Rattle.std.specs.Prelude.{◌≡◌, ◌*◌, ◌≤◌, ◌<◌, if◌then◌else◌, length, IfOk, IfSome};
+ghost use Rattle.std.specs.Prelude.{◌≡◌, ◌*◌, ◌≤◌, ◌<◌, [], if◌then◌else◌, length, IfOk, IfSome};
 ghost use Rattle.floor_port.specs.Claims as spec;
 ghost use Rattle.floor_port.specs.Rows.{rows_of};
 
 use crate::floor::NamedFloor;
 use named_port::Names;
+use node_log::PLACES;
 use std::alloc::{AllocError, Global};
 use std::marker::Model;
 
 /// The maximum number of members.
 const MAX_MEMBERS: usize = 9;
-
-/// The number of places for members: member 0, which there is not, to member 9.
-const PLACES: usize = 10;
 
 /// The boot and the floor that a member told last of a row. Both are 0 if it told none.
 #[derive(Clone, Copy, Debug, PartialEq, Eq)]
@@ -42,7 +40,7 @@ impl Model for Claims {
 /// Returns the claims of members that told nothing, over the given number of rows.
 fn no_claims(alloc: Global, rows: usize) -> Result<Vec<Claim>, AllocError>
     requires { rows ≤ 10000 }
-    ensures { IfOk result (λ kept. kept.items ≡ (spec.new_claims rows).kept) }
+    ensures { IfOk result (λ kept. kept.items ≡ (spec.new_claims [] rows).kept) }
 {
     let mut kept = Vec::with_capacity(alloc, MAX_MEMBERS * rows)?;
     for _ in 0..MAX_MEMBERS * rows {
@@ -108,19 +106,31 @@ fn keep_all(
 }
 
 impl Claims {
-    /// Returns the claims of members that told nothing, over the given number of rows.
-    pub(crate) fn new(alloc: Global, rows: usize) -> Result<Self, AllocError>
+    /// Returns the claims of members that told nothing, of whom some are known to have gone back, over the given number
+    /// of rows.
+    pub(crate) fn new(
+        alloc: Global,
+        gone_back: [bool; PLACES],
+        rows: usize,
+    ) -> Result<Self, AllocError>
         requires { rows ≤ 10000 }
-        ensures { IfOk result (λ claims. claims ≡ spec.new_claims rows) }
+        ensures { IfOk result (λ claims. claims ≡ spec.new_claims gone_back rows) }
     {
         Ok(Claims {
             boots: [0; PLACES],
-            fallen: [false; PLACES],
+            fallen: gone_back,
             kept: no_claims(alloc, rows)?,
         })
     }
 
-    /// Returns whether a floor of the member fell.
+    /// Returns the members of whom a floor fell, or that are known to have gone back, from member 0 to 9.
+    pub(crate) fn fallen(&self) -> [bool; PLACES]
+        ensures { result ≡ self.now.fallen }
+    {
+        self.fallen
+    }
+
+    /// Returns whether a floor of the member fell, or it is known to have gone back.
     pub(crate) fn is_fallen(&self, member: u8) -> bool
         ensures { result ≡ spec.is_fallen self.now member }
     {

@@ -14,6 +14,8 @@ impl<P: Gatekeeper + Drop> Gatekeeper for FloorPort<'_, P> {
 
     ghost fell = { λ floors. slice_get floors.falls 0 };
 
+    ghost gone_back = { λ floors. floors.packer.claims.fallen };
+
     ghost differing = { λ floors. P.differing floors.port };
 
     ghost aside = { λ floors. P.aside floors.port };
@@ -34,12 +36,20 @@ impl<P: Gatekeeper + Drop> Gatekeeper for FloorPort<'_, P> {
         FloorPort::take_fell(self)
     }
 
+    fn gone_back(&self) -> [bool; PLACES] {
+        FloorPort::gone_back(self)
+    }
+
     fn take_differing(&mut self) -> [bool; PLACES] {
         self.port.take_differing()
     }
 
     fn take_request(&mut self) -> Option<SetAside> {
         self.port.take_request()
+    }
+
+    fn drain(&mut self) {
+        self.port.drain();
     }
 
     fn report(&mut self, request: &SetAside, page: &[u8]) -> bool {

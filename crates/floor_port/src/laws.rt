@@ -7,7 +7,7 @@ ghost use Rattle.named_wire.specs.Bytes.{AreBytes};
 ghost use Rattle.node_log.specs.declared.gatekeeper.Fell.{Fell};
 ghost use Rattle.floor_port.specs.Claims.{is_fallen};
 ghost use Rattle.floor_port.specs.Floors.{IsBodyOf, floors_at};
-ghost use Rattle.floor_port.specs.Packer.{PackerRecord, after_event, handed_in, new_packer};
+ghost use Rattle.floor_port.specs.Packer.{PackerRecord, StartRecord, after_event, handed_in, new_packer};
 ghost use Rattle.floor_port.specs.Promises.{Among, HandsIn, IsNotFresh, TellsFloors, WentBack};
 ghost use Rattle.floor_port.specs.Rows.{RowsRecord, after_witness, is_fresh, next_floors};
 ghost use Rattle.floor_port.specs.Runs.{Call, Offer, after_calls, below_events, fells_over, handed_events, may_make};
@@ -22,18 +22,18 @@ pub fn floors_one_spelling()
 /// Floors that are handed in: each event that the port hands in is one that the port below received, an offer of the
 /// node, or a floor that a member told under the key. A datagram of a member that went back has no bytes.
 pub fn what_is_handed_in_was_told()
-    ensures { (key : List ℕ) (names : List (List ℕ)) (me boot members : ℕ) (floors : List ℕ) (calls : List Call)
-        (event : PortEvent) → may_make (new_packer key names me boot members floors) calls ≡ true →
-        Among (handed_events (new_packer key names me boot members floors) calls) event →
-        HandsIn key me calls event }
+    ensures { (key : List ℕ) (names : List (List ℕ)) (me boot members : ℕ) (start : StartRecord) (calls : List Call)
+        (event : PortEvent) → may_make (new_packer key names me boot members start) calls ≡ true →
+        Among (handed_events (new_packer key names me boot members start) calls) event →
+        HandsIn key start.gone_back me calls event }
 {}
 
 /// Floors that are told: each offer to the port below is one of the node, or tells floors of the node.
 pub fn what_is_told_is_the_nodes()
-    ensures { (key : List ℕ) (names : List (List ℕ)) (me boot members : ℕ) (floors : List ℕ) (calls : List Call)
-        (to : Sender) (bytes : List ℕ) → may_make (new_packer key names me boot members floors) calls ≡ true →
-        Among (below_events (new_packer key names me boot members floors) calls) (Offered to bytes) →
-        Among calls (Offer to bytes) ⊎ TellsFloors key names me boot floors calls to bytes }
+    ensures { (key : List ℕ) (names : List (List ℕ)) (me boot members : ℕ) (start : StartRecord) (calls : List Call)
+        (to : Sender) (bytes : List ℕ) → may_make (new_packer key names me boot members start) calls ≡ true →
+        Among (below_events (new_packer key names me boot members start) calls) (Offered to bytes) →
+        Among calls (Offer to bytes) ⊎ TellsFloors key names me boot start.floors calls to bytes }
 {}
 
 /// Floors rise: no call lowers a floor that the port tells, or one that it knows.
@@ -42,10 +42,10 @@ pub fn floors_rise()
         slice_index packer.rows.told row ≤ slice_index (after_calls packer calls).rows.told row }
     ensures known { (packer : PackerRecord) (calls : List Call) (row : ℕ) →
         slice_index packer.rows.known row ≤ slice_index (after_calls packer calls).rows.known row }
-    ensures from_the_start { (key : List ℕ) (names : List (List ℕ)) (me boot members : ℕ) (floors : List ℕ)
+    ensures from_the_start { (key : List ℕ) (names : List (List ℕ)) (me boot members : ℕ) (start : StartRecord)
         (calls : List Call) (row : ℕ) →
-        slice_index floors row
-        ≤ slice_index (after_calls (new_packer key names me boot members floors) calls).rows.told row }
+        slice_index start.floors row
+        ≤ slice_index (after_calls (new_packer key names me boot members start) calls).rows.told row }
 {}
 
 /// Fallen members are silent: after a floor of a member fell, each datagram of it is handed in without bytes. What it
@@ -58,17 +58,17 @@ pub fn fallen_members_are_silent()
         is_fallen packer.claims member ≡ true → after_event packer (Received (Peer member) bytes) ≡ packer }
     ensures stays { (packer : PackerRecord) (calls : List Call) (member : ℕ) →
         is_fallen packer.claims member ≡ true → is_fallen (after_calls packer calls).claims member ≡ true }
-    ensures in_all_executions { (key : List ℕ) (names : List (List ℕ)) (me boot members : ℕ) (floors : List ℕ)
+    ensures in_all_executions { (key : List ℕ) (names : List (List ℕ)) (me boot members : ℕ) (start : StartRecord)
         (before calls : List Call) (member : ℕ) (bytes : List ℕ) →
-        is_fallen (after_calls (new_packer key names me boot members floors) before).claims member ≡ true →
-        Among (handed_events (after_calls (new_packer key names me boot members floors) before) calls)
+        is_fallen (after_calls (new_packer key names me boot members start) before).claims member ≡ true →
+        Among (handed_events (after_calls (new_packer key names me boot members start) before) calls)
         (Received (Peer member) bytes) → bytes ≡ [] }
 {}
 
 /// Falls are true: each fall that a log is told of is of a member that told a lower floor of the token in a later boot.
 pub fn falls_are_true()
-    ensures { (key : List ℕ) (names : List (List ℕ)) (me boot members : ℕ) (floors : List ℕ) (calls : List Call)
-        (fell : Fell) → Among (fells_over (new_packer key names me boot members floors) calls) fell →
+    ensures { (key : List ℕ) (names : List (List ℕ)) (me boot members : ℕ) (start : StartRecord) (calls : List Call)
+        (fell : Fell) → Among (fells_over (new_packer key names me boot members start) calls) fell →
         WentBack key me calls fell.member fell.name }
 {}
 

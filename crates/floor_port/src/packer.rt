@@ -22,7 +22,7 @@ use arrayvec::ArrayVec;
 use datagram_port::{Received, Sender};
 use named_port::Names;
 use named_wire::{Head, Kind, MAX_BODY_LEN, MAX_DATAGRAM_LEN, read_datagram, write_datagram};
-use node_log::Fell;
+use node_log::{Fell, PLACES};
 use otp_core::Next;
 use std::alloc::{AllocError, Global};
 use std::marker::Model;
@@ -37,6 +37,8 @@ pub struct Membership {
     pub boot: u64,
     /// The number of members of the cluster.
     pub members: u8,
+    /// The members that are known to have gone back to an old store, from member 0 to 9.
+    pub gone_back: [bool; PLACES],
 }
 
 /// The floors of a datagram that are left to hand in.
@@ -149,8 +151,8 @@ impl<'k> Packer<'k> {
     ) -> Result<Self, AllocError>
         requires few { length floors.now ≤ 10000 }
         requires each { length floors.now ≡ length names.now }
-        ensures { IfOk result (λ packer. packer
-            ≡ spec.new_packer key.now names.now node.me node.boot node.members floors.now) }
+        ensures { IfOk result (λ packer. packer ≡ spec.new_packer key.now names.now node.me node.boot node.members
+            (record { gone_back = node.gone_back; floors = floors.now })) }
     {
         Ok(Packer {
             key,
@@ -160,7 +162,7 @@ impl<'k> Packer<'k> {
             rows: Rows::new(alloc, names, floors)?,
             pace: Pace::new(floors.len()),
             pending: Pending::new(node.me),
-            claims: Claims::new(alloc, floors.len())?,
+            claims: Claims::new(alloc, node.gone_back, floors.len())?,
         })
     }
 
@@ -169,6 +171,13 @@ impl<'k> Packer<'k> {
         ensures { result.now ≡ self.now.rows.told }
     {
         self.rows.told()
+    }
+
+    /// Returns the members of whom a floor fell, or that are known to have gone back, from member 0 to 9.
+    pub(crate) fn fallen(&self) -> [bool; PLACES]
+        ensures { result ≡ self.now.claims.fallen }
+    {
+        self.claims.fallen()
     }
 
     /// Returns the sender of the floors that are left to hand in, or None if there is none.

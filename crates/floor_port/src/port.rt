@@ -16,7 +16,7 @@ use crate::packer::{Membership, Packer};
 use crate::record::Record;
 use datagram_port::{Port, Received, Sender};
 use named_port::Names;
-use node_log::Fell;
+use node_log::{Fell, PLACES};
 use otp_core::Next;
 use std::alloc::{AllocError, Global};
 use vote_wire::ClusterKey;
@@ -31,8 +31,9 @@ pub struct FloorPort<'k, P: Port + Drop> {
     packer: Packer<'k>,
     falls: Falls,
     calls: Record,
-    ghost after: { IsAfter (P.events port) packer (at_start packer calls.floors) calls.calls },
-    ghost untold: { AreUntold falls (fells_over (at_start packer calls.floors) calls.calls) },
+    ghost places: { length calls.start.gone_back ≡ 10 },
+    ghost after: { IsAfter (P.events port) packer (at_start packer calls.start) calls.calls },
+    ghost untold: { AreUntold falls (fells_over (at_start packer calls.start) calls.calls) },
 }
 
 /// Offers a body of floors to a member, unless it is the node itself.
@@ -134,13 +135,15 @@ impl<'k, P: Port + Drop> FloorPort<'k, P> {
         requires fresh { IfSome (P.events port) (λ events. events ≡ []) }
         requires few { length floors.now ≤ 10000 }
         requires each { length floors.now ≡ length names.now }
-        ensures { IfOk result (λ made. (made.port ≡ port)
-            × (made.packer ≡ new_packer key.now names.now node.me node.boot node.members floors.now)
-            × (made.falls ≡ []) × (made.calls.floors ≡ floors.now) × (made.calls.calls ≡ [])) }
+        ensures { IfOk result (λ made. (made.port ≡ port) × (made.falls ≡ [])
+            × (made.packer ≡ new_packer key.now names.now node.me node.boot node.members made.calls.start)
+            × (made.calls.start ≡ record { gone_back = node.gone_back; floors = floors.now })
+            × (made.calls.calls ≡ [])) }
     {
         let packer = Packer::new(alloc, key, names, node, floors)?;
         let mut calls = Record::new();
-        calls.note_start(packer.told());
+        calls.note_gone_back(node.gone_back.as_slice());
+        calls.note_floors(packer.told());
         Ok(FloorPort {
             port,
             packer,
@@ -159,11 +162,18 @@ impl<'k, P: Port + Drop> FloorPort<'k, P> {
         self.falls.take_first()
     }
 
+    /// Returns the members that went back: a floor of each fell, or it was known at the start. From member 0 to 9.
+    pub fn gone_back(&self) -> [bool; PLACES]
+        ensures { result ≡ self.now.packer.claims.fallen }
+    {
+        self.packer.fallen()
+    }
+
     /// Returns the port below.
     pub fn into_inner(self) -> P
         ensures port { result ≡ self.entry.port }
         ensures after { IsAfter (P.events result) self.entry.packer
-            (at_start self.entry.packer self.entry.calls.floors) self.entry.calls.calls }
+            (at_start self.entry.packer self.entry.calls.start) self.entry.calls.calls }
     {
         let FloorPort { port, .. } = self;
         port
@@ -175,18 +185,18 @@ impl<P: Port + Drop> Port for FloorPort<'_, P> {
     ghost use Rattle.floor_port.specs.Runs.{at_start, handed_events};
     ghost use Rattle.floor_port.specs.Setup.{telling_setup};
 
-    ghost events = { λ port. Some (handed_events (at_start port.packer port.calls.floors) port.calls.calls) };
+    ghost events = { λ port. Some (handed_events (at_start port.packer port.calls.start) port.calls.calls) };
 
-    ghost setup = { λ port. telling_setup port.packer port.calls.floors (P.setup port.port) };
+    ghost setup = { λ port. telling_setup port.packer port.calls.start (P.setup port.port) };
 
     fn receive(&mut self, buffer: &mut [u8; 512]) -> Received
         ensures within { IsWithin result }
         ensures event { Grows
-            (Some (handed_events (at_start self.old.packer self.old.calls.floors) self.old.calls.calls))
-            (Some (handed_events (at_start self.new.packer self.new.calls.floors) self.new.calls.calls))
+            (Some (handed_events (at_start self.old.packer self.old.calls.start) self.old.calls.calls))
+            (Some (handed_events (at_start self.new.packer self.new.calls.start) self.new.calls.calls))
             (event_of_receive result buffer.new ∷ []) }
-        ensures stays { telling_setup self.new.packer self.new.calls.floors (P.setup self.new.port)
-            ≡ telling_setup self.old.packer self.old.calls.floors (P.setup self.old.port) }
+        ensures stays { telling_setup self.new.packer self.new.calls.start (P.setup self.new.port)
+            ≡ telling_setup self.old.packer self.old.calls.start (P.setup self.old.port) }
     {
         if let Some(sender) = self.packer.pending_from() {
             self.calls.note_left();

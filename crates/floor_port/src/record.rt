@@ -3,16 +3,17 @@
 ghost use Rattle.std.specs.Prelude.{◌≡◌, ◌∷◌, ◌++◌, List, [], ℕ};
 ghost use Rattle.std.specs.Borrow.{ftrue};
 ghost use Rattle.datagram_port.specs.Port.{event_of_receive};
+ghost use Rattle.floor_port.specs.Packer.{StartRecord};
 ghost use Rattle.floor_port.specs.Runs.{Call, Came, Left, Offer};
 
 use datagram_port::{Received, Sender};
 use std::marker::{Model, PhantomData};
 
-/// The calls of a port, in order, and the floors at its start. It has no data and no code: only clauses read it.
+/// The calls of a port, in order, and what it began with. It has no data and no code: only clauses read it.
 #[derive(Drop)]
 pub(crate) struct Record {
     marker: PhantomData<u8>,
-    pub ghost floors: { List ℕ },
+    pub ghost start: { StartRecord },
     pub ghost calls: { List Call },
 }
 
@@ -21,18 +22,23 @@ impl Model for Record {
 }
 
 impl Record {
-    /// Returns a record without calls and floors.
+    /// Returns a record without calls, floors and members that went back.
     pub(crate) fn new() -> Record
-        ensures { (result.floors ≡ []) × (result.calls ≡ []) }
+        ensures { (result.start ≡ record { gone_back = []; floors = [] }) × (result.calls ≡ []) }
     {
         Record {
             marker: PhantomData,
         }
     }
 
+    /// Notes the members that are known at the start to have gone back.
+    pub(crate) fn note_gone_back(&mut self, _gone_back: &[bool])
+        ensures { self.new ≡ record self.old { start = record self.old.start { gone_back = _gone_back.now } } }
+    {}
+
     /// Notes the floors at the start.
-    pub(crate) fn note_start(&mut self, _floors: &[u64])
-        ensures { self.new ≡ record self.old { floors = _floors.now } }
+    pub(crate) fn note_floors(&mut self, _floors: &[u64])
+        ensures { self.new ≡ record self.old { start = record self.old.start { floors = _floors.now } } }
     {}
 
     /// Appends a receive of the port below that left `_buffer`.

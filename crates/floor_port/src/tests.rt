@@ -8,7 +8,7 @@ use arrayvec::ArrayVec;
 use datagram_port::{Coming, ListPort, Port, PortEntry, Received, Sender};
 use named_port::Names;
 use named_wire::{Head, Kind, MAX_DATAGRAM_LEN, read_datagram, write_datagram};
-use node_log::Fell;
+use node_log::{Fell, PLACES};
 use otp_core::{MAX_TOKENS, Next, Settings};
 use std::alloc::Global;
 use std::test::Fail;
@@ -48,6 +48,7 @@ const NODE: Membership = Membership {
     me: 2,
     boot: 5,
     members: 3,
+    gone_back: [false; PLACES],
 };
 
 /// Returns the names of the book in its order.
@@ -93,12 +94,24 @@ fn port_over<'k>(
     names: &'k Names,
     floors: &[Next],
 ) -> Result<FloorPort<'k, ListPort<'k>>, Fail> {
+    port_that_knows(alloc, comings, key, names, NODE, floors)
+}
+
+/// Returns a port of a node over a port in memory, as [`port_over`] does.
+fn port_that_knows<'k>(
+    alloc: Global,
+    comings: &'k [Coming<'k>],
+    key: &'k ClusterKey,
+    names: &'k Names,
+    node: Membership,
+    floors: &[Next],
+) -> Result<FloorPort<'k, ListPort<'k>>, Fail> {
     let rows = floors.len();
     if rows < 1 || rows > MAX_TOKENS || !has_rows(names, rows as u32) {
         return Err(Fail::new("another number of rows"));
     }
     let below = ListPort::new(alloc, comings);
-    Ok(FloorPort::new(alloc, below, key, names, NODE, floors)?)
+    Ok(FloorPort::new(alloc, below, key, names, node, floors)?)
 }
 
 /// Returns the cluster's key.
@@ -415,5 +428,37 @@ fn floors_that_fall(rt: HostRuntime) -> Result<(), Fail> {
         len: of_3.len(),
     };
     assert!(rt; port.receive(&mut buffer) == heard && port.take_fell().is_none());
+    assert!(rt; port.gone_back()[1] && !port.gone_back()[3]);
+    Ok(())
+}
+
+/// A member that is known to have gone back is silent from the start, and another one is heard.
+#[test]
+fn members_known_to_have_gone_back(rt: HostRuntime) -> Result<(), Fail> {
+    let alloc = rt.alloc();
+    let key = key()?;
+    let names = names(alloc, ROWS)?;
+    let floor = Next::new(5).ok_or("a floor")?;
+    let of_1 = floors_in(alloc, 1, 4, 5)?;
+    let of_3 = floors_in(alloc, 3, 2, 4)?;
+    let from_3 = Coming::Datagram {
+        sender: Sender::Peer(3),
+        bytes: &of_3,
+    };
+    let comings = [from_1(&of_1), from_1(b"OV"), from_3];
+    let mut gone_back = [false; PLACES];
+    gone_back[1] = true;
+    let node = Membership { gone_back, ..NODE };
+    let mut port = port_that_knows(alloc, &comings, &key, &names, node, &[floor; 3])?;
+    let mut buffer = [0; 512];
+    for _ in 0..2 {
+        assert!(rt; len_of(port.receive(&mut buffer))? == 0);
+    }
+    let heard = Received::Datagram {
+        sender: Sender::Peer(3),
+        len: of_3.len(),
+    };
+    assert!(rt; port.receive(&mut buffer) == heard);
+    assert!(rt; port.take_fell().is_none() && port.gone_back() == gone_back);
     Ok(())
 }

@@ -3,7 +3,8 @@ ghost use Rattle.datagram_port.specs.Port.{Faulted, Offered, Quiet, Received};
 ghost use Rattle.datagram_port.specs.declared.port.Sender.TheVariants.{Client, Peer};
 ghost use Rattle.named_wire.specs.declared.head.Kind.TheVariants.{Ask, Deny, Floor, Floors, Grant};
 ghost use Rattle.vote_wire.specs.Examples.{eight_bytes};
-ghost use Rattle.floor_port.specs.Examples.{ask_of, bare_setup, body_of_two, book, claim, claims_of_1, deny_of_9, equal_floor, fallen_1, fallen_node, fell_1, floor_of, fresh_rows, from_1, head_with, left_of_1, lower_floor, name_with, node_2, node_2_over, node_2_told, node_2_with, one_floor, pace_with, rows_with, told_in_4, two_floors, zeros};
+ghost use Rattle.floor_port.specs.Examples.{ask_of, bare_setup, body_of_two, book, claim, claims_of_1, deny_of_9, equal_floor, fallen_1, fallen_node, fell_1, floor_of, fresh_rows, from_1, gone_1, head_with, left_of_1, lower_floor, name_with, node_2, node_2_knowing, node_2_over, node_2_told, node_2_with, one_floor, pace_with, rows_with, start_with, told_in_4, two_floors, zeros};
+ghost use Rattle.node_log.specs.Differing.{nobody};
 ghost use Rattle.floor_port.specs.Claims.{claims_after, falls, fell_of, is_below, is_fallen, new_claims, no_claim, place_of, with_fell};
 ghost use Rattle.floor_port.specs.Floors.{IsBodyOf, floors_at, floors_body, is_body, told_in};
 ghost use Rattle.floor_port.specs.Pace.{after_heard, after_quiet, due, new_pace, round_of};
@@ -132,7 +133,7 @@ pub fn paces_are_worked()
 
 /// Worked cases. The claims of member 1, and the floors by which it falls.
 pub fn falls_are_worked()
-    ensures new { new_claims 3 ≡ claims_of_1 0 no_claim no_claim no_claim }
+    ensures new { new_claims nobody 3 ≡ claims_of_1 0 no_claim no_claim no_claim }
     ensures places { map (λ row. map (place_of row) (1 ∷ 9 ∷ [])) (0 ∷ 2 ∷ [])
         ≡ (0 ∷ 8 ∷ []) ∷ (18 ∷ 26 ∷ []) ∷ [] }
     ensures below { map (λ boot. map (is_below (claim 4 6) boot) (5 ∷ 6 ∷ [])) (3 ∷ 4 ∷ 5 ∷ [])
@@ -195,7 +196,8 @@ pub fn silences_are_worked()
     ensures older_boot { handed_in (node_2_told (claims_of_1 5 (claim 3 7) no_claim no_claim)) (from_1 two_floors)
         ≡ from_1 one_floor }
     ensures no_fall { map (λ claims. fell_at (node_2_told claims) (from_1 two_floors))
-        (new_claims 3 ∷ claims_of_1 4 (claim 4 7) no_claim no_claim ∷ claims_of_1 5 (claim 3 7) no_claim no_claim ∷ [])
+        (new_claims nobody 3 ∷ claims_of_1 4 (claim 4 7) no_claim no_claim
+        ∷ claims_of_1 5 (claim 3 7) no_claim no_claim ∷ [])
         ≡ replicate 3 None }
     ensures silent { map (handed_in fallen_node) (from_1 two_floors ∷ from_1 deny_of_9 ∷ from_1 [] ∷ [])
         ≡ replicate 3 (from_1 []) }
@@ -203,6 +205,11 @@ pub fn silences_are_worked()
         ≡ replicate 2 fallen_node }
     ensures told_once { map (fell_at fallen_node) (from_1 two_floors ∷ from_1 deny_of_9 ∷ []) ≡ replicate 2 None }
     ensures another_member { handed_in fallen_node (Received (Peer 3) deny_of_9) ≡ Received (Peer 3) deny_of_9 }
+    ensures known { handed_events node_2_knowing (Came (from_1 two_floors) ∷ Came (from_1 deny_of_9)
+        ∷ Came (Received (Peer 3) deny_of_9) ∷ [])
+        ≡ from_1 [] ∷ from_1 [] ∷ Received (Peer 3) deny_of_9 ∷ [] }
+    ensures known_is_untold { fells_over node_2_knowing (Came (from_1 two_floors) ∷ Came (from_1 lower_floor) ∷ [])
+        ≡ [] }
     ensures others { map (fell_at node_2)
         (Received (Client 1) two_floors ∷ Quiet ∷ Faulted ∷ Offered (Peer 1) two_floors ∷ [])
         ≡ replicate 4 None }
@@ -307,7 +314,8 @@ pub fn calls_are_worked()
     ensures below { below_events node_2 (Came Faulted ∷ Left ∷ Offer (Peer 1) [] ∷ Came (from_1 []) ∷ [])
         ≡ Faulted ∷ Offered (Peer 1) [] ∷ from_1 [] ∷ [] }
     ensures below_quiet { below_events node_2 (Came Quiet ∷ []) ≡ Quiet ∷ told_at node_2 Quiet }
-    ensures start { at_start (record node_2 { pending = left_of_1 []; pace = pace_with 3 4 }) (replicate 3 5) ≡ node_2 }
+    ensures start { at_start (record node_2 { pending = left_of_1 []; pace = pace_with 3 4 })
+        (start_with (replicate 3 5)) ≡ node_2 }
 {}
 
 /// Counterexamples: each promise of a port after calls fails for a minimal one.
@@ -329,11 +337,12 @@ pub fn calls_can_be_broken()
 
 /// Counterexamples: each promise of what is handed in and of what is told fails for a minimal one.
 pub fn promises_can_be_broken()
-    ensures received { HandsIn zeros 2 (Came Quiet ∷ Came Faulted ∷ []) Faulted }
-    ensures offered { HandsIn zeros 2 (Offer (Peer 1) [] ∷ []) (Offered (Peer 1) []) }
-    ensures told { HandsIn zeros 2 (Came (from_1 two_floors) ∷ []) (from_1 one_floor) }
-    ensures silenced { HandsIn zeros 2 (Came (from_1 one_floor) ∷ Came (from_1 lower_floor) ∷ []) (from_1 []) }
-    ensures not_lower { HandsIn zeros 2 (Came (from_1 one_floor) ∷ []) (from_1 []) → ⊥ }
+    ensures received { HandsIn zeros nobody 2 (Came Quiet ∷ Came Faulted ∷ []) Faulted }
+    ensures offered { HandsIn zeros nobody 2 (Offer (Peer 1) [] ∷ []) (Offered (Peer 1) []) }
+    ensures told { HandsIn zeros nobody 2 (Came (from_1 two_floors) ∷ []) (from_1 one_floor) }
+    ensures silenced { HandsIn zeros nobody 2 (Came (from_1 one_floor) ∷ Came (from_1 lower_floor) ∷ []) (from_1 []) }
+    ensures known { HandsIn zeros gone_1 2 (Came (from_1 one_floor) ∷ []) (from_1 []) }
+    ensures not_lower { HandsIn zeros nobody 2 (Came (from_1 one_floor) ∷ []) (from_1 []) → ⊥ }
     ensures went_back { WentBack zeros 2 (Came (from_1 one_floor) ∷ Came (from_1 lower_floor) ∷ []) 1 (name_with 0xaa) }
     ensures equal_floors { WentBack zeros 2 (Came (from_1 equal_floor) ∷ Came (from_1 lower_floor) ∷ []) 1
         (name_with 0xaa) → ⊥ }
@@ -341,9 +350,9 @@ pub fn promises_can_be_broken()
         (name_with 0xaa) → ⊥ }
     ensures another_token { WentBack zeros 2 (Came (from_1 one_floor) ∷ Came (from_1 lower_floor) ∷ []) 1
         (name_with 0xcc) → ⊥ }
-    ensures not_received { HandsIn zeros 2 [] (from_1 one_floor) → ⊥ }
-    ensures not_told { HandsIn zeros 2 (Came (from_1 deny_of_9) ∷ []) (from_1 one_floor) → ⊥ }
-    ensures from_another { HandsIn zeros 2 (Came (from_1 one_floor) ∷ []) (Received (Peer 3) one_floor) → ⊥ }
+    ensures not_received { HandsIn zeros nobody 2 [] (from_1 one_floor) → ⊥ }
+    ensures not_told { HandsIn zeros nobody 2 (Came (from_1 deny_of_9) ∷ []) (from_1 one_floor) → ⊥ }
+    ensures from_another { HandsIn zeros nobody 2 (Came (from_1 one_floor) ∷ []) (Received (Peer 3) one_floor) → ⊥ }
     ensures to_itself { TellsFloors zeros book 2 5 (replicate 3 5) [] (Peer 2) [] → ⊥ }
     ensures to_a_client { TellsFloors zeros book 2 5 (replicate 3 5) [] (Client 1) [] → ⊥ }
     ensures own { IsOwnFloor book (5 ∷ 6 ∷ 7 ∷ []) [] (floor_of 0xbb 6) }
@@ -356,29 +365,45 @@ pub fn promises_can_be_broken()
 
 /// Worked cases. The setup of a port that tells floors has what it packs by, and the floors at its start.
 pub fn setups_are_worked()
-    ensures telling { telling_setup (new_packer (7 ∷ []) book 2 5 3 (8 ∷ 9 ∷ [])) (8 ∷ 9 ∷ []) (Some bare_setup)
+    ensures telling { telling_setup (new_packer (7 ∷ []) book 2 5 3 (start_with (8 ∷ 9 ∷ [])))
+        (record (start_with (8 ∷ 9 ∷ [])) { gone_back = gone_1 }) (Some bare_setup)
         ≡ Some (record bare_setup {
-          namings = record { key = 7 ∷ []; names = (3 ∷ 8 ∷ 9 ∷ []) ∷ book; me = 2; boot = 5 } ∷ [];
+          namings = record {
+            key = 7 ∷ [];
+            names = (3 ∷ 8 ∷ 9 ∷ []) ∷ (0 ∷ 1 ∷ replicate 8 0) ∷ book;
+            me = 2;
+            boot = 5;
+          } ∷ [];
         }) }
-    ensures over_none { telling_setup node_2 [] None ≡ None }
-    ensures used { telling_setup (record node_2 { pace = pace_with 3 4; pending = left_of_1 [] }) [] (Some bare_setup)
-        ≡ telling_setup node_2 [] (Some bare_setup) }
+    ensures over_none { telling_setup node_2 (start_with []) None ≡ None }
+    ensures used { telling_setup (record node_2 { pace = pace_with 3 4; pending = left_of_1 [] })
+        (start_with []) (Some bare_setup)
+        ≡ telling_setup node_2 (start_with []) (Some bare_setup) }
 {}
 
 /// Counterexamples: the setup is another one for another key, other names, another node or boot, another number of
-/// members, or other floors.
+/// members, other floors, or other members that went back.
 pub fn setups_can_be_broken()
-    ensures another_key { telling_setup (new_packer (7 ∷ []) book 2 5 3 []) [] (Some bare_setup)
-        ≡ telling_setup (new_packer (8 ∷ []) book 2 5 3 []) [] (Some bare_setup) → ⊥ }
-    ensures fewer_names { telling_setup (new_packer (7 ∷ []) book 2 5 3 []) [] (Some bare_setup)
-        ≡ telling_setup (new_packer (7 ∷ []) [] 2 5 3 []) [] (Some bare_setup) → ⊥ }
-    ensures another_node { telling_setup (new_packer (7 ∷ []) book 2 5 3 []) [] (Some bare_setup)
-        ≡ telling_setup (new_packer (7 ∷ []) book 1 5 3 []) [] (Some bare_setup) → ⊥ }
-    ensures another_boot { telling_setup (new_packer (7 ∷ []) book 2 5 3 []) [] (Some bare_setup)
-        ≡ telling_setup (new_packer (7 ∷ []) book 2 6 3 []) [] (Some bare_setup) → ⊥ }
-    ensures more_members { telling_setup (new_packer (7 ∷ []) book 2 5 3 []) [] (Some bare_setup)
-        ≡ telling_setup (new_packer (7 ∷ []) book 2 5 4 []) [] (Some bare_setup) → ⊥ }
-    ensures second_floor { telling_setup (new_packer (7 ∷ []) book 2 5 3 []) (8 ∷ 9 ∷ []) (Some bare_setup)
-        ≡ telling_setup (new_packer (7 ∷ []) book 2 5 3 []) (8 ∷ 8 ∷ []) (Some bare_setup) → ⊥ }
-    ensures not_telling { telling_setup node_2 [] (Some bare_setup) ≡ Some bare_setup → ⊥ }
+    ensures another_key { telling_setup (new_packer (7 ∷ []) book 2 5 3 (start_with [])) (start_with [])
+        (Some bare_setup)
+        ≡ telling_setup (new_packer (8 ∷ []) book 2 5 3 (start_with [])) (start_with []) (Some bare_setup) → ⊥ }
+    ensures fewer_names { telling_setup (new_packer (7 ∷ []) book 2 5 3 (start_with [])) (start_with [])
+        (Some bare_setup)
+        ≡ telling_setup (new_packer (7 ∷ []) [] 2 5 3 (start_with [])) (start_with []) (Some bare_setup) → ⊥ }
+    ensures another_node { telling_setup (new_packer (7 ∷ []) book 2 5 3 (start_with [])) (start_with [])
+        (Some bare_setup)
+        ≡ telling_setup (new_packer (7 ∷ []) book 1 5 3 (start_with [])) (start_with []) (Some bare_setup) → ⊥ }
+    ensures another_boot { telling_setup (new_packer (7 ∷ []) book 2 5 3 (start_with [])) (start_with [])
+        (Some bare_setup)
+        ≡ telling_setup (new_packer (7 ∷ []) book 2 6 3 (start_with [])) (start_with []) (Some bare_setup) → ⊥ }
+    ensures more_members { telling_setup (new_packer (7 ∷ []) book 2 5 3 (start_with [])) (start_with [])
+        (Some bare_setup)
+        ≡ telling_setup (new_packer (7 ∷ []) book 2 5 4 (start_with [])) (start_with []) (Some bare_setup) → ⊥ }
+    ensures second_floor { telling_setup (new_packer (7 ∷ []) book 2 5 3 (start_with [])) (start_with (8 ∷ 9 ∷ []))
+        (Some bare_setup)
+        ≡ telling_setup (new_packer (7 ∷ []) book 2 5 3 (start_with [])) (start_with (8 ∷ 8 ∷ []))
+        (Some bare_setup) → ⊥ }
+    ensures another_gone_back { telling_setup node_2 (start_with []) (Some bare_setup)
+        ≡ telling_setup node_2 (record (start_with []) { gone_back = gone_1 }) (Some bare_setup) → ⊥ }
+    ensures not_telling { telling_setup node_2 (start_with []) (Some bare_setup) ≡ Some bare_setup → ⊥ }
 {}

@@ -11,6 +11,8 @@ impl<P: Gatekeeper + Drop> Gatekeeper for NamedPort<'_, P> {
 
     ghost fell = { λ named. P.fell named.port };
 
+    ghost gone_back = { λ named. P.gone_back named.port };
+
     ghost differing = { λ named. named.translator.differing };
 
     ghost aside = { λ named. P.aside named.port };
@@ -31,12 +33,20 @@ impl<P: Gatekeeper + Drop> Gatekeeper for NamedPort<'_, P> {
         self.port.take_fell()
     }
 
+    fn gone_back(&self) -> [bool; PLACES] {
+        self.port.gone_back()
+    }
+
     fn take_differing(&mut self) -> [bool; PLACES] {
         NamedPort::take_differing(self)
     }
 
     fn take_request(&mut self) -> Option<SetAside> {
         self.port.take_request()
+    }
+
+    fn drain(&mut self) {
+        self.port.drain();
     }
 
     fn report(&mut self, request: &SetAside, page: &[u8]) -> bool {

@@ -1,7 +1,7 @@
 //! What a port counted since a process began.
 
 use arrayvec::ArrayVec;
-use operator_text::{Other, Refused};
+use operator_text::{CommitTimes, Other, Refused};
 use sealed_port::Unopened;
 
 /// What a port counted since a process began. No number goes beyond `u64::MAX`.
@@ -12,8 +12,11 @@ pub struct Counters {
     pub replied: u64,
     pub accepted: u64,
     pub refused: Refused,
-    /// The number of the node's ticks.
+    /// The number of the node's ticks, and of the datagrams of its largest batch.
     pub ticks: u64,
+    pub largest_batch: u64,
+    /// The commits of batches, by the time that they took.
+    pub commit_times: CommitTimes,
     pub unopened: Unopened,
     /// What is seen of the other members, in ascending order.
     pub others: ArrayVec<Other, 8>,
@@ -28,6 +31,8 @@ impl Counters {
             accepted: 0,
             refused: Refused::default(),
             ticks: 0,
+            largest_batch: 0,
+            commit_times: CommitTimes::default(),
             unopened: Unopened::new(),
             others: ArrayVec::new(),
         }

@@ -51,6 +51,9 @@ pub trait Gatekeeper: Port {
     // The first member whose floor fell that wasn't taken yet. By default the port sees no floors.
     ghost fell: { Self → Option FellMember } = { λ _. None };
 
+    // The members that went back, from member 0 to 9. By default the port sees no floors.
+    ghost gone_back: { Self → List Bool } = { λ _. nobody };
+
     // Whether it passed over a datagram of each member that it can't read since they were last taken, from member 0 to
     // 9. By default the port reads everything.
     ghost differing: { Self → List Bool } = { λ _. nobody };
@@ -96,6 +99,10 @@ pub trait Gatekeeper: Port {
         ensures events { Self.events self.new ≡ Self.events self.old }
         ensures stays { Self.setup self.new ≡ Self.setup self.old };
 
+    /// Returns which members went back to an old store, from member 0 to 9.
+    fn gone_back(&self) -> [bool; PLACES]
+        ensures { result ≡ gone_back self.now };
+
     /// Returns whether a datagram that the port can't read came from each member since the last call, from member 0
     /// to 9.
     fn take_differing(&mut self) -> [bool; PLACES]
@@ -139,6 +146,18 @@ pub trait Gatekeeper: Port {
         ensures stays { Self.setup self.new ≡ Self.setup self.old }
     {}
 
+    /// Answers `BUSY` from now on to each new line of a client that speaks sealed, if the port has such clients. Hands
+    /// in an empty datagram of member 0 in its place. By default nothing changes.
+    fn drain(&mut self)
+        ensures unopened { unopened self.new ≡ unopened self.old }
+        ensures older { older self.new ≡ older self.old }
+        ensures fell { fell self.new ≡ fell self.old }
+        ensures differing { differing self.new ≡ differing self.old }
+        ensures aside { aside self.new ≡ aside self.old }
+        ensures events { Self.events self.new ≡ Self.events self.old }
+        ensures stays { Self.setup self.new ≡ Self.setup self.old }
+    {}
+
     /// Sends a page as the report on a request, and returns whether it was taken. A report is no offer of the node.
     fn report(&mut self, request: &SetAside, page: &[u8]) -> bool
         ensures reports { Grows (below self.old) (below self.new) (reported self.old request.now page.now) }
@@ -162,6 +181,10 @@ impl Gatekeeper for ListPort<'_> {
 
     fn take_fell(&mut self) -> Option<Fell> {
         None
+    }
+
+    fn gone_back(&self) -> [bool; PLACES] {
+        [false; PLACES]
     }
 
     fn take_differing(&mut self) -> [bool; PLACES] {
@@ -188,6 +211,10 @@ impl<R: TimeSource + Drop> Gatekeeper for UdpPort<R> {
 
     fn take_fell(&mut self) -> Option<Fell> {
         None
+    }
+
+    fn gone_back(&self) -> [bool; PLACES] {
+        [false; PLACES]
     }
 
     fn take_differing(&mut self) -> [bool; PLACES] {
@@ -227,12 +254,20 @@ impl<P: Port + Drop, C: Clock + Drop> Gatekeeper for SealedPort<P, C> {
         None
     }
 
+    fn gone_back(&self) -> [bool; PLACES] {
+        [false; PLACES]
+    }
+
     fn take_differing(&mut self) -> [bool; PLACES] {
         [false; PLACES]
     }
 
     fn take_request(&mut self) -> Option<SetAside> {
         SealedPort::take_request(self)
+    }
+
+    fn drain(&mut self) {
+        SealedPort::drain(self);
     }
 
     fn report(&mut self, request: &SetAside, page: &[u8]) -> bool {

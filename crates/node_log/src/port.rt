@@ -232,6 +232,8 @@ impl<P: Gatekeeper + Drop, W: Write + Drop> Gatekeeper for LogPort<'_, P, W> {
 
     ghost fell = { λ logged. P.fell logged.port };
 
+    ghost gone_back = { λ logged. P.gone_back logged.port };
+
     ghost differing = { λ logged. P.differing logged.port };
 
     ghost aside = { λ logged. P.aside logged.port };
@@ -252,12 +254,20 @@ impl<P: Gatekeeper + Drop, W: Write + Drop> Gatekeeper for LogPort<'_, P, W> {
         self.port.take_fell()
     }
 
+    fn gone_back(&self) -> [bool; PLACES] {
+        self.port.gone_back()
+    }
+
     fn take_differing(&mut self) -> [bool; PLACES] {
         self.port.take_differing()
     }
 
     fn take_request(&mut self) -> Option<SetAside> {
         self.port.take_request()
+    }
+
+    fn drain(&mut self) {
+        self.port.drain();
     }
 
     fn report(&mut self, request: &SetAside, page: &[u8]) -> bool {

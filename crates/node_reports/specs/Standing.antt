@@ -38,5 +38,7 @@ pub record TellsCounters (counters : Counters) (status : Status) : Type 0 where
   pub accepted : status.accepted ≡ counters.accepted
   pub refused : status.refused ≡ counters.refused
   pub ticks : status.ticks ≡ counters.ticks
+  pub largest_batch : status.largest_batch ≡ counters.largest_batch
+  pub commit_times : status.commit_times ≡ counters.commit_times
   pub unopened : status.unopened ≡ counters.unopened
   pub others : status.others.items ≡ counters.others.items

@@ -340,6 +340,7 @@ impl<'d, N: TimeSource, T: Drop, U> Desk<'d, N, T, U> {
                 if self.draining.is_none() {
                     self.draining = Some(millis_of(self.outside));
                 }
+                port.drain();
                 send(port, &asked, Reply::Draining);
             }
         }

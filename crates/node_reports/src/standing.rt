@@ -109,6 +109,8 @@ impl Standing {
             accepted: counters.accepted,
             refused: counters.refused,
             ticks: counters.ticks,
+            largest_batch: counters.largest_batch,
+            commit_times: counters.commit_times,
             unopened: counters.unopened,
             others: counters.others,
         })

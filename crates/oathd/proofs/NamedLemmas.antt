@@ -301,3 +301,10 @@ module _ {S : Type 0} (g : Ghosts S) (finds : sql.Held S → Type 0) where
       → IfOk result (λ _. IsServedWith g finds reloads cluster turns is_logged clients text)
   reloaded_well cluster turns is_logged clients text reloads result is h =
       subst (λ (r : Bool). IfOk result (λ _. IsServedWith g finds r cluster turns is_logged clients text)) (sym is) h
+
+  -- the same for the words of a log
+  pub logged_well : (cluster : ClusterWords) (turns : ℕ) (is_logged has : Bool) (clients : ClientWords) (text : List ℕ) (reloads : Bool)
+      (result : Result Unit Fault) → is_logged ≡ has → IfOk result (λ _. IsServedWith g finds reloads cluster turns is_logged clients text)
+      → IfOk result (λ _. IsServedWith g finds reloads cluster turns has clients text)
+  logged_well cluster turns is_logged has clients text reloads result same h =
+      subst (λ (l : Bool). IfOk result (λ _. IsServedWith g finds reloads cluster turns l clients text)) same h

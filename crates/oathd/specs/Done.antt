@@ -20,6 +20,7 @@ use Rattle.oathd_words.specs.declared.store_words.Action.{Action}
 use Rattle.oathd_words.specs.declared.store_words.Action.TheVariants.{Init, Remake, Serve, Export, Audit, Migrate, Floors, Level, Gates, Unlock}
 use Rattle.oathd_words.specs.declared.store_words.Action.TheVariants.{Named as ByNames}
 use Rattle.oathd_words.specs.declared.store_words.ImportWords.TheVariants.{Given, Named}
+use Rattle.oathd_words.specs.StoreWords.{has_log}
 use Rattle.oathd_database.specs.Commands.{HasAudited, HasExported, HasMade, HasMigrated}
 use Rattle.oathd_database.specs.Floors.{HasToldFloors}
 use Rattle.oathd_database.specs.Gates.{HasToldGates}
@@ -164,8 +165,8 @@ module _ {S : Type 0} (g : Ghosts S) (finds : sql.Held S → Type 0) where
   IsDone (Remake node (Given settings) moment former) text old new =
       (store : SqlHeld S) × IsReplaced node settings moment former store × (new ≡ old)
   IsDone (Remake node (Named path) moment former) text old new = IsMemberReplaced node moment former text old new
-  IsDone (Serve cluster turns is_logged clients reloads) text old new =
-      IsServedWith reloads cluster turns is_logged clients text
+  IsDone (Serve cluster turns log clients reloads) text old new =
+      IsServedWith reloads cluster turns (has_log log) clients text
   IsDone Export text old new = (users : List ℕ) × HasExported g finds default_limits 0 16777216 old new users
   IsDone (Audit node) text old new = (users : List ℕ) × HasAudited g finds default_limits 0 16777216 node old new users
   IsDone (Migrate node) text old new =

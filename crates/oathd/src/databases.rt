@@ -9,9 +9,9 @@ ghost use Rattle.oathd_database.specs.File.{FindsFiles};
 ghost use Rattle.oathd_database.specs.Gate.{IsSaid};
 ghost use Rattle.oathd_causes.specs.declared.roster.NamesFault.TheVariants as names;
 ghost use Rattle.oathd_database.specs.declared.fault.Fault.TheVariants as database;
-ghost use Rattle.oathd_words.specs.StoreWords.{IsActionInRange, IsClusterInRange};
+ghost use Rattle.oathd_words.specs.StoreWords.{IsActionInRange, IsClusterInRange, has_log};
 ghost use Rattle.oathd_words.specs.declared.store_words.Action.TheVariants.{Audit, Export, Floors, Gates, Init, Level, Migrate, Remake, Unlock};
-ghost use Rattle.oathd.specs.Done.{AreFloorsTold, AreMembersFloorsTold, IsCreated, IsDone, IsLevelled, IsMemberCreated, IsMemberReplaced, IsMomentOf, IsReplaced, IsReplacedSo};
+ghost use Rattle.oathd.specs.Done.{AreFloorsTold, AreMembersFloorsTold, IsCreated, IsDone, IsLevelled, IsMemberCreated, IsMemberReplaced, IsMomentOf, IsReplaced, IsReplacedSo, IsServedWith};
 ghost use Rattle.oathd.specs.Named.{EndsBy, EndsSo, names_asked, names_in};
 ghost use Rattle.oathd.specs.Serve.{AreLinesOf, IsAskedFor, IsMemberOf, IsOfTask, IsRunOf, ServeEndsSo};
 ghost use Rattle.oathd.specs.Users.{IsOfUsers};
@@ -24,6 +24,7 @@ use cluster_file::Cluster;
 use datagram_port::Clock;
 use floor_sql::SqlStore;
 use floors_file::MAX_FLOORS_LEN;
+use log_writer::{LogWriter, SteadyWriter, SyslogWriter, UdpOutlet};
 use oathd_causes::NamesFault;
 use oathd_database::{
     ClientLines, DatabaseFile, LostNode, NodeKey, Serving, audit_store, export_store, floors_store,
@@ -32,12 +33,14 @@ use oathd_database::{
 };
 use oathd_roster::NamedCluster;
 use oathd_tasks::{clients_at, cluster_in, cluster_key, member_place, read_key};
-use oathd_words::{Action, ClientWords, ClusterWords, CountWords, FormerWords, ImportWords};
+use oathd_words::{
+    Action, ClientWords, ClusterWords, CountWords, FormerWords, ImportWords, LogWords,
+};
 use otp_core::{MOMENTS_END, Settings};
 use sqlite::{FileFrom, FileStore, Start};
 use sqlite_trees::store::Store;
 use std::alloc::Global;
-use std::io::{Cursor, Write};
+use std::io::{self, Cursor, Printer, Write};
 use std::time::Clock as TimeSource;
 use udp_port::SystemClock;
 use vote_core::Place;
@@ -75,6 +78,19 @@ fn refuse_names<'a>(cluster: &Cluster<'_>) -> Result<(), Fault<'a>>
     match cluster.names {
         Some(_) => Err(Fault::Names(NamesFault::PlainInit)),
         None => Ok(()),
+    }
+}
+
+/// A writer of a log to standard output or to a syslog.
+type NodeLog<'r> = LogWriter<Printer<'r, HostRuntime>, UdpOutlet<'r, HostRuntime>>;
+
+/// Returns the writer of a node's log.
+fn writer_of(rt: &HostRuntime, log: LogWords) -> NodeLog<'_> {
+    match log {
+        LogWords::Syslog(to) => LogWriter::Syslog(SyslogWriter::new(UdpOutlet::new(rt, to))),
+        LogWords::Nowhere | LogWords::Output => {
+            LogWriter::Output(SteadyWriter::new(io::writer(rt)))
+        }
     }
 }
 
@@ -333,13 +349,13 @@ impl<'r, 'a> Site<'r, 'a> {
         &self,
         start: S,
         serving: Serving<'_>,
-        held: &mut O,
+        log: &mut O,
     ) -> Result<(), Fault<'a>>
         ensures { ServeEndsSo ⟦<FileStore<FileFrom<S>> as Store>⟧ (FindsFiles (image_at S.Start))
             (λ other. other ≡ serving.entry) result }
     {
         let users = self.users(serving.settings, 0)?;
-        let _served = serve_store(self.alloc, self.rt, users, serving, self.found(start), held)?;
+        let _served = serve_store(self.alloc, self.rt, users, serving, self.found(start), log)?;
         Ok(())
     }
 
@@ -349,14 +365,14 @@ impl<'r, 'a> Site<'r, 'a> {
         start: S,
         named: Option<NamedCluster>,
         serving: Serving<'_>,
-        held: &mut O,
+        log: &mut O,
     ) -> Result<(), Fault<'a>>
         ensures { EndsBy ⟦<FileStore<FileFrom<S>> as Store>⟧ (FindsFiles (image_at S.Start))
             (λ other. other ≡ serving.entry) named result }
     {
         match &named {
-            Some(named) => self.serve_named(start, named, serving, held),
-            None => self.serve_as(start, serving, held),
+            Some(named) => self.serve_named(start, named, serving, log),
+            None => self.serve_as(start, serving, log),
         }
     }
 
@@ -368,7 +384,7 @@ impl<'r, 'a> Site<'r, 'a> {
         turns: u64,
         is_logged: bool,
         clients: ClientWords<'a>,
-        held: &mut O,
+        log: &mut O,
     ) -> Result<(), Fault<'a>>
         requires cluster { IsClusterInRange cluster }
         requires turns { turns < 2 ^ 54 }
@@ -394,10 +410,10 @@ impl<'r, 'a> Site<'r, 'a> {
                     is_logged,
                     lines,
                 };
-                self.serve_as(start, serving, held)
+                self.serve_as(start, serving, log)
             }
             ClusterWords::Named { node, .. } => self.serve_member(
-                start, node, turns, is_logged, clients, held,
+                start, node, turns, is_logged, clients, log,
             ),
         }
     }
@@ -410,7 +426,7 @@ impl<'r, 'a> Site<'r, 'a> {
         turns: u64,
         is_logged: bool,
         clients: ClientWords<'a>,
-        held: &mut O,
+        log: &mut O,
     ) -> Result<(), Fault<'a>>
         requires node { 1 ≤ node }
         requires turns { turns < 2 ^ 54 }
@@ -424,9 +440,63 @@ impl<'r, 'a> Site<'r, 'a> {
         let lines = self.lines_of(clients)?;
         let named = named_cluster(&cluster, place.n())?;
         match Serving::of_member(&cluster, key, place, turns, is_logged, lines) {
-            Ok(serving) => self.serve_by(start, named, serving, held),
+            Ok(serving) => self.serve_by(start, named, serving, log),
             Err(_) => Err(Fault::Database(oathd_database::Fault::Memory)),
         }
+    }
+
+    /// Serves a node as the words say, with a log if there is to be one.
+    fn serve_with<S: Start, O: Write>(
+        &self,
+        start: S,
+        cluster: ClusterWords<'a>,
+        turns: u64,
+        is_logged: bool,
+        clients: ClientWords<'a>,
+        reloads: bool,
+        log: &mut O,
+    ) -> Result<(), Fault<'a>>
+        requires cluster { IsClusterInRange cluster }
+        requires turns { turns < 2 ^ 54 }
+        ensures { IfOk result (λ _. IsServedWith ⟦<FileStore<FileFrom<S>> as Store>⟧ (FindsFiles (image_at S.Start))
+            reloads cluster.entry turns is_logged clients.entry self.now.cluster.now) }
+    {
+        if reloads {
+            self.reload(start, cluster, turns, is_logged, clients, log)
+        } else {
+            self.serve(start, cluster, turns, is_logged, clients, log)
+        }
+    }
+
+    /// Serves a node as the words say. Its log goes to standard output or to a syslog: a line that can't be written is
+    /// lost and counted, and changes nothing else.
+    fn serve_logged<S: Start>(
+        &self,
+        start: S,
+        cluster: ClusterWords<'a>,
+        turns: u64,
+        log: LogWords,
+        clients: ClientWords<'a>,
+        reloads: bool,
+    ) -> Result<(), Fault<'a>>
+        requires cluster { IsClusterInRange cluster }
+        requires turns { turns < 2 ^ 54 }
+        ensures { IfOk result (λ _. IsServedWith ⟦<FileStore<FileFrom<S>> as Store>⟧ (FindsFiles (image_at S.Start))
+            reloads cluster.entry turns (has_log log) clients.entry self.now.cluster.now) }
+    {
+        let is_logged = log.is_logged();
+        let mut writer = writer_of(self.rt, log);
+        let end = self.serve_with(
+            start,
+            cluster,
+            turns,
+            is_logged,
+            clients,
+            reloads,
+            &mut writer,
+        );
+        let _flushed = writer.flush();
+        end
     }
 
     /// Prints a users file with the store's content.
@@ -613,16 +683,10 @@ impl<'r, 'a> Site<'r, 'a> {
             Action::Serve {
                 cluster,
                 turns,
-                is_logged,
+                log,
                 clients,
                 reloads,
-            } => {
-                if reloads {
-                    self.reload(start, cluster, turns, is_logged, clients, held)
-                } else {
-                    self.serve(start, cluster, turns, is_logged, clients, held)
-                }
-            }
+            } => self.serve_logged(start, cluster, turns, log, clients, reloads),
             Action::Export => self.export(start, held),
             Action::Audit { node } => self.audit(start, node, held),
             Action::Migrate { node } => self.migrate(start, node),

@@ -83,7 +83,7 @@ impl<'a> Site<'_, 'a> {
         start: S,
         cluster: &NamedCluster,
         serving: Serving<'_>,
-        held: &mut O,
+        log: &mut O,
     ) -> Result<(), Fault<'a>>
         ensures { NamedEndsSo ⟦<FileStore<FileFrom<S>> as Store>⟧ (FindsFiles (image_at S.Start))
             (λ other. other ≡ serving.entry) (λ named. named ≡ cluster.now) result }
@@ -101,7 +101,7 @@ impl<'a> Site<'_, 'a> {
             found,
             &mut KeptSocket::new(),
             Never,
-            held,
+            log,
         )?;
         Ok(())
     }

@@ -140,7 +140,7 @@ impl<'a> Site<'_, 'a> {
         serving: &Serving<'_>,
         boot: Boot,
         socket: &mut KeptSocket,
-        held: &mut O,
+        log: &mut O,
     ) -> Result<Boot, Fault<'a>>
         requires { boot.turns < 2 ^ 54 }
         ensures boot { IfOk result (IsBoot ⟦<FileStore<FileFrom<S>> as Store>⟧ (FindsFiles (image_at S.Start))
@@ -149,7 +149,7 @@ impl<'a> Site<'_, 'a> {
         ensures fault { IfErr result (λ fault. NamedEndsSo ⟦<FileStore<FileFrom<S>> as Store>⟧
             (FindsFiles (image_at S.Start)) (IsOfBoot (λ asked. asked ≡ serving.now) boot.turns)
             (λ named. named ≡ cluster.now) (Err fault)) }
-        ensures unlogged { serving.now.is_logged ≡ false → held.new ≡ held.old }
+        ensures unlogged { serving.now.is_logged ≡ false → log.new ≡ log.old }
     {
         let (alloc, rt) = (self.alloc, self.rt);
         let moment = present_moment(rt)?;
@@ -175,10 +175,10 @@ impl<'a> Site<'_, 'a> {
             found,
             socket,
             watch,
-            held,
+            log,
         )?;
         let (left, found, taken) = watch.end();
-        let (text, former) = next_text(alloc, text, found, serving, &cluster.salt, held);
+        let (text, former) = next_text(alloc, text, found, serving, &cluster.salt, log);
         Ok(Boot {
             text,
             taken,
@@ -195,12 +195,12 @@ impl<'a> Site<'_, 'a> {
         serving: &Serving<'_>,
         boot: Boot,
         socket: &mut KeptSocket,
-        held: &mut O,
+        log: &mut O,
     ) -> Result<Boot, Fault<'a>>
         requires { boot.turns < 2 ^ 54 }
         ensures boot { IfOk result (⟦<Boot as Later>⟧.later serving.now cluster.now boot) }
         ensures fewer { IfOk result (λ next. (boot.turns ≡ 0) ⊎ (next.turns < boot.turns)) }
-        ensures unlogged { serving.now.is_logged ≡ false → held.new ≡ held.old }
+        ensures unlogged { serving.now.is_logged ≡ false → log.new ≡ log.old }
     {
         let Boot {
             text,
@@ -209,16 +209,16 @@ impl<'a> Site<'_, 'a> {
             turns,
         } = boot;
         let boot = Boot::with_turns(text, taken, turns);
-        let served = self.serve_boot(Unknown, cluster, serving, boot, socket, held);
+        let served = self.serve_boot(Unknown, cluster, serving, boot, socket, log);
         if !is_full(&served) {
             return served;
         }
         let Some(former) = former else {
             return served;
         };
-        tell_refusal(serving.is_logged, Refusal::Full, held);
+        tell_refusal(serving.is_logged, Refusal::Full, log);
         let boot = Boot::with_turns(former, taken, turns);
-        self.serve_boot(Unknown, cluster, serving, boot, socket, held)
+        self.serve_boot(Unknown, cluster, serving, boot, socket, log)
     }
 
     /// Serves a node over its store by names. Takes its users file again when it changes.
@@ -227,13 +227,13 @@ impl<'a> Site<'_, 'a> {
         start: S,
         cluster: &NamedCluster,
         serving: Serving<'_>,
-        held: &mut O,
+        log: &mut O,
     ) -> Result<(), Fault<'a>>
         ensures boots { IfOk result (λ _. AreServedBoots
             (IsBoot ⟦<FileStore<FileFrom<S>> as Store>⟧ (FindsFiles (image_at S.Start)) (λ asked. asked ≡ serving.entry)
             (λ named. named ≡ cluster.now))
             (⟦<Boot as Later>⟧.later serving.entry cluster.now) serving.entry.turns) }
-        ensures unlogged { serving.entry.is_logged ≡ false → held.new ≡ held.old }
+        ensures unlogged { serving.entry.is_logged ≡ false → log.new ≡ log.old }
     {
         let moment = present_moment(self.rt)?;
         let taken = stamp_of(self.rt, self.users);
@@ -241,9 +241,9 @@ impl<'a> Site<'_, 'a> {
         let mut socket = KeptSocket::new();
         let turns = serving.turns;
         let first = Boot::with_turns(text, taken, turns);
-        let mut boot = self.serve_boot(start, cluster, &serving, first, &mut socket, held)?;
+        let mut boot = self.serve_boot(start, cluster, &serving, first, &mut socket, log)?;
         while boot.turns > 0 {
-            boot = self.serve_next(cluster, &serving, boot, &mut socket, held)?;
+            boot = self.serve_next(cluster, &serving, boot, &mut socket, log)?;
         }
         Ok(())
     }
@@ -257,7 +257,7 @@ impl<'a> Site<'_, 'a> {
         turns: u64,
         is_logged: bool,
         clients: ClientWords<'a>,
-        held: &mut O,
+        log: &mut O,
     ) -> Result<(), Fault<'a>>
         requires node { 1 ≤ node }
         requires turns { turns < 2 ^ 54 }
@@ -265,7 +265,7 @@ impl<'a> Site<'_, 'a> {
             × IsBoot ⟦<FileStore<FileFrom<S>> as Store>⟧ (FindsFiles (image_at S.Start))
             (λ serving. IsMemberOf node self.now.cluster.now serving × IsRunOf turns is_logged clients.entry serving)
             (IsNamedOf self.now.cluster.now) first next) }
-        ensures unlogged { is_logged ≡ false → held.new ≡ held.old }
+        ensures unlogged { is_logged ≡ false → log.new ≡ log.old }
     {
         let cluster = cluster_in(self.alloc, self.cluster)?;
         let place = member_place(&cluster, node)?;
@@ -275,7 +275,7 @@ impl<'a> Site<'_, 'a> {
             return Err(Fault::Names(NamesFault::PlainReload));
         };
         match Serving::of_member(&cluster, key, place, turns, is_logged, lines) {
-            Ok(serving) => self.serve_boots(start, &named, serving, held),
+            Ok(serving) => self.serve_boots(start, &named, serving, log),
             Err(_) => Err(Fault::Database(oathd_database::Fault::Memory)),
         }
     }
@@ -289,19 +289,19 @@ impl<'a> Site<'_, 'a> {
         turns: u64,
         is_logged: bool,
         clients: ClientWords<'a>,
-        held: &mut O,
+        log: &mut O,
     ) -> Result<(), Fault<'a>>
         requires cluster { IsClusterInRange cluster }
         requires turns { turns < 2 ^ 54 }
         ensures boot { IfOk result (λ _. IsReloaded ⟦<FileStore<FileFrom<S>> as Store>⟧ (FindsFiles (image_at S.Start))
             (IsAskedFor cluster.entry turns is_logged clients.entry self.now.cluster.now) cluster.entry turns
             self.now.cluster.now) }
-        ensures unlogged { is_logged ≡ false → held.new ≡ held.old }
+        ensures unlogged { is_logged ≡ false → log.new ≡ log.old }
     {
         match cluster {
             ClusterWords::Given { .. } => Err(Fault::Names(NamesFault::PlainReload)),
             ClusterWords::Named { node, .. } => {
-                self.reload_member(start, node, turns, is_logged, clients, held)
+                self.reload_member(start, node, turns, is_logged, clients, log)
             }
         }
     }

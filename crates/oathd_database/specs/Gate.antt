@@ -1,5 +1,5 @@
 -- The gate that a clients file says.
-use Rattle.std.specs.Prelude.{◌≤◌, ℕ, List, [], map}
+use Rattle.std.specs.Prelude.{false, ◌≤◌, ℕ, List, [], map}
 use Rattle.clients_file.specs.declared.clients.ClientEntry.{ClientEntry}
 use Rattle.clients_file.specs.declared.clients.Clients.{Clients}
 use Rattle.clients_file.specs.declared.clients.OperatorEntry.{OperatorEntry}
@@ -40,6 +40,7 @@ gate_from node start clients = record {
   failures = record { most = clients.failures; minute = 0; failed = [] };
   operators = operators_from clients.ahead start clients.operators.items;
   aside = [];
+  drains = false;
 }
 
 -- how many seconds a client may be ahead of the clock, 2 without a clients file

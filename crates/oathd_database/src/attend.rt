@@ -3,7 +3,7 @@
 ghost use Rattle.std.specs.Prelude.{◌≡◌};
 
 use floor_store::FloorStore;
-use node_log::Gatekeeper;
+use node_log::{Gatekeeper, PLACES};
 use oath_node::{Never, Node, NodeFault, Until};
 
 /// What may end the turns of a node after a batch. It knows neither the node's store nor its port.
@@ -86,11 +86,13 @@ impl<S: FloorStore> Attend<S> for Never {
     }
 }
 
-/// What is asked after each batch of a served node, and the number of turns that were left at the last question.
+/// What is asked after each batch of a served node, the number of turns that were left at the last question, and the
+/// members that went back until the turns ended, from member 0 to 9.
 #[derive(Drop)]
 pub struct Attended<U> {
     pub attendant: U,
     pub left: u64,
+    pub gone_back: [bool; PLACES],
 }
 
 impl<U> Attended<U> {
@@ -98,7 +100,11 @@ impl<U> Attended<U> {
     pub fn new(attendant: U) -> Self
         ensures { result.attendant ≡ attendant }
     {
-        Attended { attendant, left: 0 }
+        Attended {
+            attendant,
+            left: 0,
+            gone_back: [false; PLACES],
+        }
     }
 }
 
@@ -110,6 +116,11 @@ impl<S: FloorStore, P: Gatekeeper, U: Attend<S>> Until<S, P> for Attended<U> {
 
     fn ends(&mut self, node: &Node<'_, S>, port: &mut P, left: u64) -> bool {
         self.left = left;
-        self.attendant.ends(node, port, left)
+        let ends = self.attendant.ends(node, port, left);
+        if ends {
+            let gone_back = port.gone_back();
+            self.gone_back = gone_back;
+        }
+        ends
     }
 }

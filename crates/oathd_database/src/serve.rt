@@ -5,6 +5,7 @@ ghost use Rattle.std.specs.Io.KnownBytes.{Appends};
 ghost use Rattle.oath_node.specs.TurnServing.{Serves};
 ghost use Rattle.oath_node.specs.declared.serve_fault.ServeFault.{ServeFault};
 ghost use Rattle.oath_node.specs.declared.turns.Served.{Served};
+ghost use Rattle.node_log.specs.Differing.{nobody};
 ghost use Rattle.oath_node.specs.Calls.{IsOpened};
 ghost use Rattle.oathd_database.specs.Commands.{EndsServing, HasServed, IsServed};
 ghost use Rattle.oathd_database.specs.Fault.{IsOpenFault, serve_end};
@@ -23,7 +24,9 @@ use arrayvec::ArrayVec;
 use cluster_file::fingerprint;
 use datagram_port::Clock;
 use floor_store::FloorStore;
-use node_log::{Gatekeeper, LogPort, MAX_OTHERS, Member, Roster, Start, write_roster, write_start};
+use node_log::{
+    Gatekeeper, LogPort, MAX_OTHERS, Member, PLACES, Roster, Start, write_roster, write_start,
+};
 use oath_node::{Never, Node, ServeFault, Served, run_turns_until};
 use otp_core::Settings;
 use sealed_port::SealedPort;
@@ -136,16 +139,23 @@ pub fn socket_at<N: Net>(net: &N, address: SocketAddrV4) -> Result<UdpSocket, Fa
     }
 }
 
-/// A UDP socket that is bound once, and kept while one node after another is served over it.
+/// A UDP socket that is bound once, and kept while one node after another is served over it, with the members that went
+/// back meanwhile, from member 0 to 9.
 #[derive(Drop)]
 pub struct KeptSocket {
     socket: Option<UdpSocket>,
+    pub gone_back: [bool; PLACES],
 }
 
 impl KeptSocket {
-    /// Returns a socket that is not bound yet.
-    pub fn new() -> Self {
-        KeptSocket { socket: None }
+    /// Returns a socket that is not bound yet. No member went back.
+    pub fn new() -> Self
+        ensures { result.gone_back ≡ nobody }
+    {
+        KeptSocket {
+            socket: None,
+            gone_back: [false; PLACES],
+        }
     }
 
     /// Returns a handle of the socket in blocking mode. Binds it first to `address`, as [`socket_at`] does, if it isn't
@@ -155,7 +165,8 @@ impl KeptSocket {
     /// - Returns the errors of [`socket_at`].
     /// - Returns `Socket` if there is no other handle, or its mode cannot be set.
     pub fn handle<N: Net>(&mut self, net: &N, address: SocketAddrV4) -> Result<UdpSocket, Fault>
-        ensures { IfErr result (λ fault. fault ≡ Fault.Socket) }
+        ensures fault { IfErr result (λ fault. fault ≡ Fault.Socket) }
+        ensures same { self.new.gone_back ≡ self.old.gone_back }
     {
         let socket = match self.socket.take() {
             Some(socket) => socket,

@@ -91,7 +91,8 @@ pub fn replacements_can_be_broken()
     ensures remade_import { (former : Former) (line : List ℕ) → IsRemadeOf none_named 1 former line no_users → ⊥ }
     ensures remade_gathered { (line : List ℕ) → IsRemadeOf none_named 1 (former_of 8 None []) line [] → ⊥ }
     ensures remade_node { (former : Former) (line : List ℕ) → IsRemadeOf none_named 2 former line [] → ⊥ }
-    ensures remade_boot { (former : Former) (line : List ℕ) → former.now ≡ 11 → IsRemadeOf none_named 1 former line [] → ⊥ }
+    ensures remade_boot { (former : Former) (line : List ℕ) → former.now ≡ 11
+        → IsRemadeOf none_named 1 former line [] → ⊥ }
     ensures remade_written { (former : Former) (line : List ℕ) → IsRemadeOf none_named 1 former line []
         → line ≡ store_line (member 1) (small_content (boot_at 10)) }
 
@@ -114,11 +115,12 @@ pub fn remaking_faults_can_be_broken()
         default_limits 0 11 (member 1) former (Roster (Command CannotWrite)) [] → ⊥ }
     ensures clock { IsNotRemadeOf none_named [] (Roster (Command NoClock)) [] → ⊥ }
     ensures users { IsNotRemadeOf none_named [] (Roster (Command (users_fault 1 MissingField))) no_users }
-    ensures wrong_users { IsNotRemadeOf none_named [] (Roster (Command (users_fault 1 MissingField))) (codes "# none") → ⊥ }
+    ensures wrong_users { IsNotRemadeOf none_named [] (Roster (Command (users_fault 1 MissingField))) (codes "# none")
+        → ⊥ }
     ensures store { (text : Vec ℕ) → file_of (taking_at true) 1 text.items ≡ Ok alone
         → IsNotRemadeOf fallen (text ∷ []) (Roster (Command (Store Disk))) [] }
-    ensures store_before_import { (texts : List (Vec ℕ)) → IsNotRemadeOf none_named texts (Roster (Command (Store Disk))) no_users
-        → ⊥ }
+    ensures store_before_import { (texts : List (Vec ℕ))
+        → IsNotRemadeOf none_named texts (Roster (Command (Store Disk))) no_users → ⊥ }
     ensures store_before_files { IsNotRemadeOf none_named [] (Roster (Command (Store Disk))) [] → ⊥ }
     ensures socket { IsNotRemadeOf none_named [] (Roster (Command Socket)) [] → ⊥ }
     ensures same_name { IsNotRemadeOf none_named [] (Roster (SameName 1)) [] → ⊥ }

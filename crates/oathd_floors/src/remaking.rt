@@ -132,8 +132,8 @@ fn make_seated<S: Alter + Drop>(
 /// Each file must have its MAC under `key`, the own key of the cluster, and be read after `former.since`. If
 /// `former.lost` is a list, the files are of the cluster, it and the nodes of the files are all members, and fewer than
 /// a majority are lost. If it is `None`, the whole cluster is replaced. Then the files are of the cluster's names, may
-/// be of another life and another number of members, and each majority of the former members has a file. The database is
-/// opened after the files are found sufficient.
+/// be of another life and another number of members, and each majority of the former members has a file. The database
+/// is opened after the files are found sufficient.
 ///
 /// # Errors
 /// - Returns `Roster` with the errors of [`read_named_users`]. The database is not opened.

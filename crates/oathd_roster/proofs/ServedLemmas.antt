@@ -12,7 +12,7 @@ use Rattle.datagram_port.specs.Port.{PortEvent}
 use Rattle.datagram_port.specs.Setup.{Keyed, Setup, behind_gate}
 use Rattle.floor_sql.specs.Held.{SqlHeld, sql_held}
 use Rattle.floor_store.specs.Held.{Held}
-use Rattle.floor_port.specs.Packer.{PackerRecord, new_packer}
+use Rattle.floor_port.specs.Packer.{PackerRecord, StartRecord, new_packer}
 use Rattle.floor_port.specs.Runs as telling
 use Rattle.floor_port.specs.Runs.{Call, may_make}
 use Rattle.floor_port.specs.Setup.{telling_setup}
@@ -65,19 +65,19 @@ use Rattle.oathd_roster.proofs.TellingLemmas.{known_above, telling_stays}
 -- The translator `t` and the packer `p` are at their start, when nothing was received and offered, and `u`, `q` and the
 -- bundler `b` are those at the end.
 pub served_under : {S : Type 0} (held : S → Held) (acts : ActsOf S) (old new : Hosted S) (turns : ℕ) (answers : ℕ → Bool → Bool → Type 0) (end : Result Served ServeFault) (t u start : TranslatorRecord) (p q packer : PackerRecord)
-    (b : BundlerRecord) (none calls : List PortEvent) (told : List Call) (joined : List joining.Call) (was now : Option Setup) (floors later : List ℕ) (below : Option (List PortEvent))
-    → t ≡ start → start ≡ at_start start → none ≡ [] → p ≡ packer → packer ≡ telling.at_start packer floors → IsSome was
+    (b : BundlerRecord) (none calls : List PortEvent) (told : List Call) (joined : List joining.Call) (was now : Option Setup) (first later : StartRecord) (below : Option (List PortEvent))
+    → t ≡ start → start ≡ at_start start → none ≡ [] → p ≡ packer → packer ≡ telling.at_start packer first → IsSome was
     → ServesIn held acts old new (Some (handed_events (at_start t) none)) (Some (handed_events (at_start u) calls)) None None turns answers end
-    → named_setup u (telling_setup q later now) ≡ named_setup t (telling_setup p floors was)
+    → named_setup u (telling_setup q later now) ≡ named_setup t (telling_setup p first was)
     → IsAfter (Some (telling.handed_events (telling.at_start q later) told)) u calls
     → telling.IsAfter (Some (joining.handed_events new_bundler joined)) q (telling.at_start q later) told
     → joining.IsAfter below b joined
     → ServesNamed held acts old new start packer below turns answers end × (now ≡ was)
-served_under held acts old new turns answers end t u start p q packer b none calls told joined was now floors later below is begun fresh is_packer packed known serves same after under over =
-    let parts = parts_stay t u (telling_setup p floors was) (telling_setup q later now) (known_above p floors was known) same in
-    let more = telling_stays p q floors later was now known parts.1 in
+served_under held acts old new turns answers end t u start p q packer b none calls told joined was now first later below is begun fresh is_packer packed known serves same after under over =
+    let parts = parts_stay t u (telling_setup p first was) (telling_setup q later now) (known_above p first was known) same in
+    let more = telling_stays p q first later was now known parts.1 in
     let begins : at_start u ≡ start = parts.0 ∙ ap at_start is ∙ sym begun in
-    let packs : telling.at_start q later ≡ packer = more.0 ∙ ap (λ (one : PackerRecord). telling.at_start one floors) is_packer ∙ sym packed in (
+    let packs : telling.at_start q later ≡ packer = more.0 ∙ ap (λ (one : PackerRecord). telling.at_start one first) is_packer ∙ sym packed in (
       record {
         calls = calls;
         serves =
@@ -237,12 +237,16 @@ start_is key all names others me number boot one two three =
     ap (λ (k : List ℕ). new_translator k names me boot) one ∙ ap (λ (n : List (List ℕ)). new_translator all n me boot) two
     ∙ ap (λ (m : ℕ). new_translator all others m boot) three
 
+-- what a packer begins with
+abbrev pub start_of : List Bool → List ℕ → StartRecord
+start_of gone_back floors = record { gone_back = gone_back; floors = floors }
+
 -- a packer of the same parts is the same
-pub packer_is : (key all : List ℕ) (names others : List (List ℕ)) (me number boot members count : ℕ) (floors : List ℕ) → key ≡ all → names ≡ others → me ≡ number → members ≡ count
-    → new_packer key names me boot members floors ≡ new_packer all others number boot count floors
-packer_is key all names others me number boot members count floors one two three four =
-    ap (λ (k : List ℕ). new_packer k names me boot members floors) one ∙ ap (λ (n : List (List ℕ)). new_packer all n me boot members floors) two
-    ∙ ap (λ (m : ℕ). new_packer all others m boot members floors) three ∙ ap (λ (c : ℕ). new_packer all others number boot c floors) four
+pub packer_is : (key all : List ℕ) (names others : List (List ℕ)) (me number boot members count : ℕ) (start : StartRecord) → key ≡ all → names ≡ others → me ≡ number → members ≡ count
+    → new_packer key names me boot members start ≡ new_packer all others number boot count start
+packer_is key all names others me number boot members count start one two three four =
+    ap (λ (k : List ℕ). new_packer k names me boot members start) one ∙ ap (λ (n : List (List ℕ)). new_packer all n me boot members start) two
+    ∙ ap (λ (m : ℕ). new_packer all others m boot members start) three ∙ ap (λ (c : ℕ). new_packer all others number boot c start) four
 
 -- ---- want of memory before the first turn
 
@@ -330,7 +334,7 @@ module _ {S : Type 0} (g : Ghosts S) (finds : sql.Held S → Type 0) (cluster : 
     ends_memory fault is =
         subst (λ (x : Fault). IfSome a (EndsServingNamed g finds cluster moment serving (Command x))) (sym is) (ends_before Memory (λ text h. tt))
 
-    module _ (found : SeatedRecord (SqlHeld S)) (counts : RowCounts) (first last : Hosted (SeatedRecord (SqlHeld S))) (boot : ℕ) (starts : List ℕ)
+    module _ (found : SeatedRecord (SqlHeld S)) (counts : RowCounts) (first last : Hosted (SeatedRecord (SqlHeld S))) (boot : ℕ) (gone_back : List Bool) (starts : List ℕ)
         (opened : HasOpenedNamed g finds cluster serving.settings moment serving.place.me book floors found counts)
         (in_boot : IsOpened (seated_held (sql_held g)) found first) (of_book : first.book ≡ book)
         (of_limits : first.limits ≡ serving.settings) (of_key : first.key ≡ bare) (of_place : first.voter.place ≡ serving.place)
@@ -340,7 +344,7 @@ module _ {S : Type 0} (g : Ghosts S) (finds : sql.Held S → Type 0) (cluster : 
       IsSo answers result = IsServedNamed (seated_held (sql_held g)) (operator_acts (seated_held (sql_held g))) first last
           (setup_for serving.place.me serving.members.items serving.lines)
           (new_translator (tag_key serving.key book) (names_of cluster.salt book) serving.place.me boot)
-          (new_packer (tag_key serving.key book) (names_of cluster.salt book) serving.place.me boot serving.place.n starts) serving.turns
+          (new_packer (tag_key serving.key book) (names_of cluster.salt book) serving.place.me boot serving.place.n (start_of gone_back starts)) serving.turns
           (DeskAnswers answers) result
 
       served_so : (answers : ℕ → Bool → Bool → Type 0) (result : Result Served Fault) → IsSo answers result
@@ -362,6 +366,7 @@ module _ {S : Type 0} (g : Ghosts S) (finds : sql.Held S → Type 0) (cluster : 
             boot_is = boot_is;
             floors = starts;
             floors_are = starts_are;
+            gone_back = gone_back;
             served_is = is;
           })
 

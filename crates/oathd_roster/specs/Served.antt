@@ -51,7 +51,8 @@ translator_of naming = new_translator naming.key naming.names naming.node.me nam
 -- the packer at its start
 abbrev pub packer_of : Naming → PackerRecord
 packer_of naming =
-    new_packer naming.key naming.names naming.node.me naming.node.boot naming.node.members naming.floors.items
+    new_packer naming.key naming.names naming.node.me naming.node.boot naming.node.members
+    (record { gone_back = naming.node.gone_back; floors = naming.floors.items })
 
 -- ---- the turns
 
@@ -122,6 +123,8 @@ module _ {S : Type 0} (g : Ghosts S) (finds : sql.Held S → Type 0) (cluster : 
     pub floors : List ℕ
     pub floors_are :
         HasCleanDisk (sql.state g found.inner.conn) → floors ≡ floors_in (seated_held (sql_held g) found).content
+    -- the members that went back in an earlier boot of the process, from member 0 to 9
+    pub gone_back : List Bool
     -- the port below is at the members of `serving`, and takes its lines
     pub served_is :
         let setup = setup_for serving.place.me serving.members.items serving.lines in
@@ -130,7 +133,8 @@ module _ {S : Type 0} (g : Ghosts S) (finds : sql.Held S → Type 0) (cluster : 
         let me = serving.place.me in
         let held = seated_held (sql_held g) in
         IsServedNamed held (operator_acts held) first last setup (new_translator key names me boot)
-        (new_packer key names me boot serving.place.n floors) serving.turns (DeskAnswers answers) result
+        (new_packer key names me boot serving.place.n (record { gone_back = gone_back; floors = floors }))
+        serving.turns (DeskAnswers answers) result
 
 -- A command that serves a node by names ends with the fault: before the first turn, or in a turn, with all that was
 -- served until then.

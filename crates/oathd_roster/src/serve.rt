@@ -74,7 +74,7 @@ fn serve_asked<S: FloorStore, P: Gatekeeper + Drop, N: TimeSource, W: Write, U: 
     if !is_asked {
         return serve_port(node, port, outside, turns, until, &bare, log, writer);
     }
-    let counted = CountPort::new(port, &bare, member.me, member.members);
+    let counted = CountPort::new(port, &bare, member.me, member.members, outside);
     serve_port(node, counted, outside, turns, until, &bare, log, writer)
 }
 
@@ -162,8 +162,9 @@ fn serve_front<S: FloorStore, N: TimeSource, W: Write, U: Attend<S>>(
     }
 }
 
-/// Serves a node by names over a socket, as [`serve_front`] does, with a desk at which operators ask. The desk knows the
-/// tokens of `book`, and tells them what stays of the node and what `told` tells. Returns `until` too.
+/// Serves a node by names over a socket, as [`serve_front`] does, with a desk at which operators ask. The desk knows
+/// the tokens of `book`, and tells them what stays of the node and what `told` tells. Returns `until` too. `socket`
+/// keeps the members that went back.
 ///
 /// # Errors
 /// Returns the errors of [`serve_front`].
@@ -178,6 +179,7 @@ fn serve_desk<S: FloorStore, T: Told<S> + Drop, N: TimeSource, W: Write, U: Stop
     standing: Standing,
     book: &Book,
     told: T,
+    socket: &mut KeptSocket,
     until: U,
     log: Option<ServeLog>,
     writer: &mut W,
@@ -197,7 +199,11 @@ fn serve_desk<S: FloorStore, T: Told<S> + Drop, N: TimeSource, W: Write, U: Stop
     match serve_front(
         alloc, node, port, naming, outside, front, turns, &mut until, log, writer,
     ) {
-        Ok(served) => Ok((served, until.attendant.into_until())),
+        Ok(served) => {
+            let gone_back = until.gone_back;
+            socket.gone_back = gone_back;
+            Ok((served, until.attendant.into_until()))
+        }
         Err(fault) => Err(fault),
     }
 }
@@ -280,7 +286,8 @@ fn indexed_names(alloc: Global, named: &NamedUsers) -> Result<Names, Fault>
 /// Opens a node over its store by names in a new boot, binds a UDP socket to its address, and serves it for the given
 /// turns, or until `until` ends them. Returns `until` too.
 ///
-/// The socket is bound if `socket` isn't yet, and stays bound.
+/// The socket is bound if `socket` isn't yet, and stays bound. Nothing is taken from a member that went back, as long
+/// as `socket` is kept.
 ///
 /// The store is opened as [`open_named_store`] does. The node speaks to the other members by the names of its tokens,
 /// under the key of `serving`. In the process, it speaks to its port under the bare key. It tells the other members the
@@ -343,6 +350,7 @@ pub fn serve_named_store<
     let address = members[usize::from(node) - 1];
     let start = start_of(place, address, store.boot()?, book, &key);
     let floors = floors_of(alloc, &store)?;
+    let gone_back = socket.gone_back;
     let naming = Naming {
         key,
         names,
@@ -350,6 +358,7 @@ pub fn serve_named_store<
             me: node,
             boot: start.boot,
             members: place.n(),
+            gone_back,
         },
         floors,
     };
@@ -368,8 +377,8 @@ pub fn serve_named_store<
         key: own_key.own().as_slice(),
     };
     let served = serve_desk(
-        alloc, &mut node, port, &naming, outside, front, turns, standing, book, told, until, log,
-        writer,
+        alloc, &mut node, port, &naming, outside, front, turns, standing, book, told, socket,
+        until, log, writer,
     )?;
     Ok(served)
 }

@@ -1,11 +1,14 @@
 -- Addresses with commas between them.
-use Rattle.std.proofs.Common.{◌≡◌, ℕ, suc, ◌+◌, ◌≤◌, List, [], ◌∷◌, ◌++◌, length, refl, sym, ap, subst, ◌∙◌, arith}
-use Rattle.std.specs.Prelude.{◌==◌, Option, Some, None, Result, Ok, Err, IfOk, IfSome, IfNone}
+use Rattle.std.proofs.Common.{◌≡◌, ℕ, suc, ◌+◌, ◌≤◌, List, [], ◌∷◌, ◌++◌, length, refl, sym, ap, subst, ◌∙◌, arith, lit<}
+use Rattle.std.specs.Fmt.{digits}
+use Rattle.std.specs.Prelude.{◌==◌, codes, Option, Some, None, Result, Ok, Err, IfOk, IfSome, IfNone}
 use Rattle.std.specs.Net.Grammar.{IsSocketV4Text}
 use Rattle.std.specs.declared.net.socket_addr.SocketAddrV4.{SocketAddrV4}
 use Rattle.std.proofs.NetLemmas.Theorems.{IsSocketV4Text_unique}
 use Rattle.std.proofs.lemmas.List.{length-append}
 use Rattle.std.proofs.lemmas.List.Splits.{length-slice_split}
+use Rattle.udp_port.specs.Examples.{at_local}
+use Rattle.oathd_words.specs.Broken.{local_text}
 use Rattle.oathd_words.specs.Members.{SayAddresses, parts_of}
 
 -- The first parts of a text are these addresses, and the rest of it has the other parts.
@@ -109,3 +112,14 @@ some_at answer x P is h = subst (λ o. IfSome o P) is h
 
 pub none_at : {A : Type 0} (answer : Option A) (P : Type 0) → answer ≡ None → IfNone answer P → P
 none_at answer P is h = subst (λ o. IfNone o P) is h
+
+-- an address of this machine is spelled out
+pub five : IsSocketV4Text (local_text 5) (at_local 5)
+unfolding digits
+five = (
+  codes "127.0.0.1",
+  codes ":5",
+  refl,
+  record { a = 127; b = 0; c = 0; d = 1; fit = (lit< tt, lit< tt, lit< tt, lit< tt); value = refl; spelled = refl },
+  (codes "5", refl, ((lit< tt, (lit< tt, tt)), refl), lit< tt),
+)

@@ -8,10 +8,11 @@ use Rattle.otp_core.specs.Limits.{Limits}
 use Rattle.vote_core.specs.NodeSet.{PlaceRecord}
 use Rattle.oathd_words.specs.Members.{AreMembers, SayAddresses, parts_of}
 use Rattle.oathd_words.specs.Given.{GivesLimits, GivesMember}
-use Rattle.oathd_words.specs.StoreWords.{AsksForAct, AsksForAction, AsksForCluster, GivesPlace, turns_given}
+use Rattle.oathd_words.specs.StoreWords.{AsksForAct, AsksForAction, AsksForCluster, AsksForLog, GivesPlace, turns_given}
 use Rattle.oathd_words.specs.declared.store_words.Action.{Action}
 use Rattle.oathd_words.specs.declared.store_words.Action.TheVariants as actions
 use Rattle.oathd_words.specs.declared.store_words.Action.TheVariants.{Init, Remake, Serve, Export, Audit, Migrate, Floors, Level, Gates, Unlock}
+use Rattle.oathd_words.specs.declared.store_words.LogWords.{LogWords}
 use Rattle.oathd_words.specs.declared.store_words.NamedAct.{NamedAct}
 use Rattle.oathd_words.specs.declared.store_words.NamedAct.TheVariants as acts
 use Rattle.oathd_words.specs.declared.store_words.ClusterWords.{ClusterWords}
@@ -65,7 +66,7 @@ module _ (found : Found) where
   pub no_cluster : ((cluster : ClusterWords) → AsksForCluster found cluster → ⊥) → (action : Action) → AsksForAction (codes "serve") found action → ⊥
   no_cluster none (Init node settings moment) asks = apart (codes "serve") _ _ asks.0 refl (lit< tt)
   no_cluster none (Remake node settings moment former) asks = apart (codes "serve") _ _ asks.0 refl (lit< tt)
-  no_cluster none (Serve cluster turns is_logged clients reloads) asks = none cluster asks.1
+  no_cluster none (Serve cluster turns log clients reloads) asks = none cluster asks.1
   no_cluster none Export asks = apart (codes "serve") _ _ asks.0 refl (lit< tt)
   no_cluster none (Audit node) asks = apart (codes "serve") _ _ asks.0 refl (lit< tt)
   no_cluster none (Migrate node) asks = apart (codes "serve") _ _ asks.0 refl (lit< tt)
@@ -79,7 +80,7 @@ module _ (found : Found) where
   pub no_turns : turns_given found ≡ None → (action : Action) → AsksForAction (codes "serve") found action → ⊥
   no_turns none (Init node settings moment) asks = apart (codes "serve") _ _ asks.0 refl (lit< tt)
   no_turns none (Remake node settings moment former) asks = apart (codes "serve") _ _ asks.0 refl (lit< tt)
-  no_turns none (Serve cluster turns is_logged clients reloads) asks = let clash = sym none ∙ asks.2 in absurd cc
+  no_turns none (Serve cluster turns log clients reloads) asks = let clash = sym none ∙ asks.2 in absurd cc
   no_turns none Export asks = apart (codes "serve") _ _ asks.0 refl (lit< tt)
   no_turns none (Audit node) asks = apart (codes "serve") _ _ asks.0 refl (lit< tt)
   no_turns none (Migrate node) asks = apart (codes "serve") _ _ asks.0 refl (lit< tt)
@@ -88,3 +89,17 @@ module _ (found : Found) where
   no_turns none (Gates node) asks = apart (codes "serve") _ _ asks.0 refl (lit< tt)
   no_turns none (Unlock node user) asks = apart (codes "serve") _ _ refl asks.0 (lit< tt)
   no_turns none (actions.Named node path act) asks = no_act act asks.2
+
+  -- if no log is asked for, no action is
+  pub no_log : ((log : LogWords) → AsksForLog found log → ⊥) → (action : Action) → AsksForAction (codes "serve") found action → ⊥
+  no_log none (Init node settings moment) asks = apart (codes "serve") _ _ asks.0 refl (lit< tt)
+  no_log none (Remake node settings moment former) asks = apart (codes "serve") _ _ asks.0 refl (lit< tt)
+  no_log none (Serve cluster turns log clients reloads) asks = none log asks.3
+  no_log none Export asks = apart (codes "serve") _ _ asks.0 refl (lit< tt)
+  no_log none (Audit node) asks = apart (codes "serve") _ _ asks.0 refl (lit< tt)
+  no_log none (Migrate node) asks = apart (codes "serve") _ _ asks.0 refl (lit< tt)
+  no_log none (Floors node count) asks = apart (codes "serve") _ _ asks.0 refl (lit< tt)
+  no_log none (Level node floors) asks = apart (codes "serve") _ _ asks.0 refl (lit< tt)
+  no_log none (Gates node) asks = apart (codes "serve") _ _ asks.0 refl (lit< tt)
+  no_log none (Unlock node user) asks = apart (codes "serve") _ _ refl asks.0 (lit< tt)
+  no_log none (actions.Named node path act) asks = no_act act asks.2

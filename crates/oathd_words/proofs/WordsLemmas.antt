@@ -11,13 +11,15 @@ use Rattle.std.specs.declared.net.socket_addr.SocketAddrV4.{SocketAddrV4}
 use Rattle.oathd_words.specs.Given.{GivesMember, is_flag}
 use Rattle.oathd_words.specs.InquiryWords.{AsksForInquiry, AsksMembers, AsksNode, GivesAddress}
 use Rattle.oathd_words.specs.NodesWords.{AsksForNodes}
-use Rattle.oathd_words.specs.StoreWords.{AsksForAct, AsksForAction, AsksForStore, GivesMoment}
+use Rattle.oathd_words.specs.StoreWords.{AsksForAct, AsksForAction, AsksForLog, AsksForStore, GivesMoment}
 use Rattle.oathd_words.specs.Words.{AsksForNothing, AsksToCheck}
 use Rattle.oathd_words.specs.declared.inquiry_words.Inquiry.{Inquiry}
 use Rattle.oathd_words.specs.declared.inquiry_words.Inquiry.TheVariants as inquiries
 use Rattle.oathd_words.specs.declared.nodes_words.NodesWords.{NodesWords}
 use Rattle.oathd_words.specs.declared.store_words.Action.{Action}
 use Rattle.oathd_words.specs.declared.store_words.Action.TheVariants.{Init, Remake, Serve, Export, Audit, Migrate, Floors, Level, Gates, Unlock, Named}
+use Rattle.oathd_words.specs.declared.store_words.LogWords.{LogWords}
+use Rattle.oathd_words.specs.declared.store_words.LogWords.TheVariants.{Nowhere, Output, Syslog}
 use Rattle.oathd_words.specs.declared.store_words.NamedAct.{NamedAct}
 use Rattle.oathd_words.specs.declared.store_words.NamedAct.TheVariants as acts
 use Rattle.oathd_words.specs.declared.words.Task.TheVariants.{Lines, Sim, Cluster, Store, Ask, Survey, Check, NewKey, NewCluster, Secret, SecretOfInput}
@@ -48,7 +50,7 @@ act_name (acts.Level floors) = codes "level"
 abbrev action_name : Action → List ℕ
 action_name (Init node import moment) = codes "init"
 action_name (Remake node import moment former) = codes "init"
-action_name (Serve cluster turns is_logged clients reloads) = codes "serve"
+action_name (Serve cluster turns log clients reloads) = codes "serve"
 action_name Export = codes "export"
 action_name (Audit node) = codes "audit"
 action_name (Migrate node) = codes "migrate"
@@ -75,7 +77,7 @@ act_stored (acts.Level floors) = refl
 store_named : (action : Action) → is_store_name (action_name action) ≡ true
 store_named (Init node import moment) = refl
 store_named (Remake node import moment former) = refl
-store_named (Serve cluster turns is_logged clients reloads) = refl
+store_named (Serve cluster turns log clients reloads) = refl
 store_named Export = refl
 store_named (Audit node) = refl
 store_named (Migrate node) = refl
@@ -99,7 +101,7 @@ act_so name found (acts.Level floors) asks = asks.0
 pub named_so : (name : List ℕ) (found : Found) (action : Action) → AsksForAction name found action → name ≡ action_name action
 named_so name found (Init node import moment) asks = asks.0
 named_so name found (Remake node import moment former) asks = asks.0
-named_so name found (Serve cluster turns is_logged clients reloads) asks = asks.0
+named_so name found (Serve cluster turns log clients reloads) asks = asks.0
 named_so name found Export asks = asks.0
 named_so name found (Audit node) asks = asks.0
 named_so name found (Migrate node) asks = asks.0
@@ -253,7 +255,7 @@ pub no_init_node : (found : Found) → ((number : ℕ) → GivesMember found (co
     → AsksForAction (codes "init") found action → ⊥
 no_init_node found none (Init node import moment) asks = none node asks.3
 no_init_node found none (Remake node import moment former) asks = none node asks.3
-no_init_node found none (Serve cluster turns is_logged clients reloads) asks = apart (codes "init") _ _ refl asks.0 (lit< tt)
+no_init_node found none (Serve cluster turns log clients reloads) asks = apart (codes "init") _ _ refl asks.0 (lit< tt)
 no_init_node found none Export asks = apart (codes "init") _ _ asks.0 refl (lit< tt)
 no_init_node found none (Audit node) asks = apart (codes "init") _ _ asks.0 refl (lit< tt)
 no_init_node found none (Migrate node) asks = apart (codes "init") _ _ refl asks.0 (lit< tt)
@@ -283,6 +285,15 @@ where_none (Some x) P p = tt
 abbrev text_in : Option (List ℕ) → List ℕ
 text_in None = []
 text_in (Some text) = text
+
+-- a text that is no address gives no syslog
+pub no_syslog : (found : Found) (text : List ℕ) → first_value found (codes "log-to") ≡ Some text
+    → ((address : SocketAddrV4) → IsSocketV4Text text address → ⊥) → (log : LogWords) → AsksForLog found log → ⊥
+no_syslog found text given none Nowhere asks = let clash = sym given ∙ asks.0 in absurd cc
+no_syslog found text given none Output asks = let clash = sym given ∙ asks.0 in absurd cc
+no_syslog found text given none (Syslog address) asks =
+    let alike : asks.text ≡ text = ap text_in (sym asks.given ∙ given) in
+    none address (subst (λ t. IsSocketV4Text t address) alike asks.says)
 
 -- a text that is no address gives none
 pub no_address : (found : Found) (text : List ℕ) → first_value found (codes "ADDRESS") ≡ Some text

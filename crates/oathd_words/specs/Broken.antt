@@ -16,6 +16,7 @@ use Rattle.oathd_words.specs.declared.store_words.Action.TheVariants.{Init, Rema
 use Rattle.oathd_words.specs.declared.store_words.ClusterWords.{ClusterWords}
 use Rattle.oathd_words.specs.declared.store_words.ClusterWords.TheVariants as clusters
 use Rattle.oathd_words.specs.declared.store_words.ImportWords.TheVariants as imports
+use Rattle.oathd_words.specs.declared.store_words.LogWords.TheVariants.{Nowhere}
 use Rattle.oathd_words.specs.declared.store_words.NamedAct.{NamedAct}
 use Rattle.oathd_words.specs.declared.words.Task.{Task}
 use Rattle.oathd_words.specs.declared.words.Task.TheVariants as tasks
@@ -77,11 +78,11 @@ usual_remake former = Remake 1 (imports.Given default_limits) None former
 
 -- a run of `turns` receives for a node of the cluster file
 abbrev pub serve_for : ℕ → ℕ → Action
-serve_for turns node = Serve (named_cluster node) turns false ThisMachine false
+serve_for turns node = Serve (named_cluster node) turns Nowhere ThisMachine false
 
 -- a run for the first of `members`
 abbrev pub usual_serve : Vec SocketAddrV4 → Action
-usual_serve members = Serve (given_cluster 1 members) 0 false Anybody false
+usual_serve members = Serve (given_cluster 1 members) 0 Nowhere Anybody false
 
 -- a floors file for nine members, or for the members of the cluster file
 abbrev pub floors_of : ℕ → Action

@@ -5,6 +5,7 @@ use Rattle.clap.specs.declared.parser.matches.Found.{Found}
 use Rattle.command_line.specs.Number.{number_at}
 use Rattle.otp_core.specs.Limits.{Limits, AreLimits, limits_of}
 use Rattle.otp_core.specs.Range.{IsMoment}
+use Rattle.std.specs.Net.Grammar.{IsSocketV4Text}
 use Rattle.std.specs.declared.net.socket_addr.SocketAddrV4.{SocketAddrV4}
 use Rattle.vote_core.specs.NodeSet.{PlaceRecord}
 use Rattle.vote_core.specs.State.{IsPlace}
@@ -19,6 +20,8 @@ use Rattle.oathd_words.specs.declared.store_words.ClusterWords.{ClusterWords}
 use Rattle.oathd_words.specs.declared.store_words.ClusterWords.TheVariants.{Given, Named}
 use Rattle.oathd_words.specs.declared.store_words.ImportWords.{ImportWords}
 use Rattle.oathd_words.specs.declared.store_words.ImportWords.TheVariants as imports
+use Rattle.oathd_words.specs.declared.store_words.LogWords.{LogWords}
+use Rattle.oathd_words.specs.declared.store_words.LogWords.TheVariants.{Nowhere, Output, Syslog}
 use Rattle.oathd_words.specs.declared.store_words.Action.TheVariants as actions
 use Rattle.oathd_words.specs.declared.store_words.Action.TheVariants.{Init, Remake, Serve, Export, Audit, Migrate, Floors, Level, Gates, Unlock}
 use Rattle.oathd_words.specs.declared.store_words.NamedAct.{NamedAct}
@@ -91,6 +94,26 @@ AsksForClients found ThisMachine =
     (first_value found (codes "clients") ≡ None) × (takes_anybody found ≡ false)
 AsksForClients found (clients.Named path) = first_value found (codes "clients") ≡ Some path.now
 
+-- The address of a syslog is given.
+pub record GivesSyslog (found : Found) (address : SocketAddrV4) : Type 0 where
+  pub text : List ℕ
+  pub given : first_value found (codes "log-to") ≡ Some text
+  pub says : IsSocketV4Text text address
+
+-- where a node writes its log: nowhere, to standard output, or to a syslog
+abbrev pub AsksForLog : Found → LogWords → Type 0
+AsksForLog found Nowhere =
+    (first_value found (codes "log-to") ≡ None) × (is_flag (first_value found (codes "log")) ≡ false)
+AsksForLog found Output =
+    (first_value found (codes "log-to") ≡ None) × (is_flag (first_value found (codes "log")) ≡ true)
+AsksForLog found (Syslog address) = GivesSyslog found address
+
+-- whether a node writes a log
+abbrev pub has_log : LogWords → Bool
+has_log Nowhere = false
+has_log Output = true
+has_log (Syslog address) = true
+
 -- whether a cluster begins that never served
 abbrev pub begins : Found → Bool
 begins found = is_flag (first_value found (codes "begins"))
@@ -119,9 +142,9 @@ AsksForAction name found (Remake node import moment former) =
     (name ≡ codes "init") × (begins found ≡ false) × (is_of_former found ≡ true)
     × GivesMember found (codes "node") node × AsksForImport found import × GivesMoment found moment
     × (former_given found ≡ Some (former_value former))
-AsksForAction name found (Serve cluster turns is_logged clients reloads) =
+AsksForAction name found (Serve cluster turns log clients reloads) =
     (name ≡ codes "serve") × AsksForCluster found cluster × (turns_given found ≡ Some turns)
-    × (is_logged ≡ is_flag (first_value found (codes "log"))) × AsksForClients found clients
+    × AsksForLog found log × AsksForClients found clients
     × (reloads ≡ is_flag (first_value found (codes "reload")))
 AsksForAction name found Export = (name ≡ codes "export") × (first_value found (codes "cluster") ≡ None)
 AsksForAction name found (Audit node) =
@@ -159,7 +182,7 @@ IsActionInRange (Init node import None) = (1 ≤ node) × (node ≤ 9)
 IsActionInRange (Init node import (Some moment)) = (1 ≤ node) × (node ≤ 9) × IsMoment moment
 IsActionInRange (Remake node import None former) = (1 ≤ node) × (node ≤ 9)
 IsActionInRange (Remake node import (Some moment) former) = (1 ≤ node) × (node ≤ 9) × IsMoment moment
-IsActionInRange (Serve cluster turns is_logged clients reloads) = IsClusterInRange cluster × (turns < 2 ^ 54)
+IsActionInRange (Serve cluster turns log clients reloads) = IsClusterInRange cluster × (turns < 2 ^ 54)
 IsActionInRange Export = Unit {0}
 IsActionInRange (Audit node) = (1 ≤ node) × (node ≤ 9)
 IsActionInRange (Migrate node) = (1 ≤ node) × (node ≤ 9)

@@ -81,7 +81,7 @@ count_path (counts.Named path) = Some path.now
 abbrev pub path_of_action : Action → Option (List ℕ)
 path_of_action (Init node import moment) = import_path import
 path_of_action (Remake node import moment former) = import_path import
-path_of_action (Serve cluster turns is_logged clients reloads) = named_path cluster
+path_of_action (Serve cluster turns log clients reloads) = named_path cluster
 path_of_action Export = None
 path_of_action (Audit node) = None
 path_of_action (Migrate node) = None

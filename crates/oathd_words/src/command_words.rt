@@ -9,12 +9,12 @@ use crate::help::{
 use crate::option_words::{
     ADDRESS, ANEW, ASKED_NODE, BEGINS, CHECKED_CLUSTER, CLIENTS, CLOCK_MOMENT, CLUSTER,
     COUNT_CLUSTER, DATABASE, DRIFT, FLOORS, FOREVER, FORMER_FLOORS, HEX, IMPORT_CLUSTER,
-    IMPORT_DRIFT, KEY, KEY_OR_ZEROS, LOG, LOOK_AHEAD, LOST, MEMBER_COUNT, MEMBERS, MOMENT,
+    IMPORT_DRIFT, KEY, KEY_OR_ZEROS, LOG, LOG_TO, LOOK_AHEAD, LOST, MEMBER_COUNT, MEMBERS, MOMENT,
     NAMES_CLUSTER, NAMES_NODE, NODE, NODE_CLUSTER, NODE_COUNT, NODES_CLUSTER, OPERATOR,
     PLAIN_LINES, RANGE, RELOAD, SINCE, SINCE_NUMBER, SKEW, STDIN, SURVEYED_ADDRESS,
     SURVEYED_CLUSTER, TURNS, USER, USERS, Word,
 };
-use crate::store_words::is_given;
+use crate::store_words::{is_given, syslog_address};
 use clap::error::ErrorKind;
 use clap::{ArgMatches, Command, Error};
 use command_line::{NumberOption, VERSION, first_out_of_range, number_error};
@@ -216,7 +216,7 @@ pub(crate) const COMMANDS: [CommandWords; 20] = [
             SETTINGS,
             &[Word::Text(CLIENTS), Word::Flag(PLAIN_LINES)],
             &[Word::Number(TURNS), Word::Flag(FOREVER)],
-            &[Word::Flag(LOG), Word::Flag(RELOAD)],
+            &[Word::Flag(LOG), Word::Text(LOG_TO), Word::Flag(RELOAD)],
         ],
     },
     CommandWords {
@@ -527,11 +527,28 @@ fn address_error(alloc: Global, usage: &mut Command<'_>, text: &str) -> Result<E
     usage.error(ErrorKind::ValueValidation, text.as_str())
 }
 
+/// Returns the text of `--log-to`, if it is given and is no address.
+fn bad_syslog<'a>(matches: &ArgMatches<'a>) -> Option<&'a str> {
+    let text = matches.get_str("log-to")?;
+    match syslog_address(text) {
+        Some(_) => None,
+        None => Some(text),
+    }
+}
+
+/// Returns the error that says what the address of a syslog is.
+fn syslog_error(alloc: Global, usage: &mut Command<'_>, text: &str) -> Result<Error, AllocError> {
+    let text = format!(in alloc;
+        "invalid value '{text}' for '--log-to <ADDRESS>': ADDRESS is an IPv4 address with a port"
+    )?;
+    usage.error(ErrorKind::ValueValidation, text.as_str())
+}
+
 /// Returns the error for values that ask for nothing.
 ///
 /// It names the first of `numbers` that is out of its range or has anything but digits. If there is none, it names
-/// `--members`, `--floors` or `--since`. `--members` takes a number in a command without `numbers`, and addresses in a
-/// command with them.
+/// `--log-to`, `--members`, `--floors` or `--since`. `--members` takes a number in a command without `numbers`, and
+/// addresses in a command with them.
 fn error_of(
     alloc: Global,
     usage: &mut Command<'_>,
@@ -540,6 +557,12 @@ fn error_of(
 ) -> Result<Error, AllocError> {
     if let Some(text) = matches.get_str("ADDRESS") {
         return address_error(alloc, usage, text);
+    }
+    match bad_syslog(matches) {
+        Some(text) if first_out_of_range(matches, numbers).is_none() => {
+            return syslog_error(alloc, usage, text);
+        }
+        _ => {}
     }
     match matches.get_str("members") {
         Some(count) if numbers.is_empty() => count_error(alloc, usage, count),

@@ -170,7 +170,8 @@ The status is 3 if the database fails, and 4 if the socket fails.
 
 With --log it prints a line for each answer, with the client's address, the
 answer as it was sent, and the user. It never prints a code, a password or a
-secret.
+secret. Lines that it can't write are dropped, and counted in a later line. With
+--log-to it sends the same lines to a syslog, and never waits for it.
 
 With --reload it takes USERS again when the file changes, if the cluster file
 gives names. A file that has a fault or no token is not taken, and the log says

@@ -11,11 +11,12 @@ ghost use Rattle.oathd_words.specs.FormerWords.{former_of, is_of_former, lost_sa
 ghost use Rattle.oathd_words.specs.Given.{GivesMember};
 ghost use Rattle.oathd_words.specs.Members.{AreMembers, SayAddresses, are_different};
 ghost use Rattle.oathd_words.specs.NodesWords.{AreNodesInRange};
-ghost use Rattle.oathd_words.specs.StoreWords.{AsksForAct, AsksForAction, AsksForClients, IsActionInRange, IsClusterInRange, begins, takes_anybody};
+ghost use Rattle.oathd_words.specs.StoreWords.{AsksForAct, AsksForAction, AsksForClients, AsksForLog, IsActionInRange, IsClusterInRange, begins, has_log, takes_anybody};
 ghost use Rattle.oathd_words.specs.Words.{IsInRange, cluster_path_of, path_of_action};
 ghost use Rattle.oathd_words.specs.declared.former_words.FormerWords.{FormerWords as AnyFormer};
 ghost use Rattle.oathd_words.specs.declared.store_words.Action.TheVariants.{Audit, Export, Gates, Migrate};
 ghost use Rattle.oathd_words.specs.declared.store_words.ClientWords.TheVariants.{Anybody, Named, ThisMachine};
+ghost use Rattle.oathd_words.specs.declared.store_words.LogWords.TheVariants.{Nowhere, Output, Syslog};
 ghost use Rattle.oathd_words.specs.declared.store_words.NamedAct.{NamedAct as AnyAct};
 ghost use Rattle.oathd_words.specs.declared.store_words.NamedAct.TheVariants as acts;
 ghost use Rattle.oathd_words.specs.declared.words.Task.TheVariants.{Check, NewCluster, NewKey, Secret, SecretOfInput};
@@ -180,6 +181,22 @@ pub fn client_words_are_worked()
         × (AsksForClients found ThisMachine → ⊥) }
     ensures new_key { cluster_path_of NewKey ≡ None }
     ensures new_cluster { cluster_path_of NewCluster ≡ None }
+{}
+
+/// Worked cases. Where a node writes its log.
+pub fn log_words_are_worked()
+    ensures nowhere { (found : Found) → found.entries.items ≡ [] → AsksForLog found Nowhere
+        × (AsksForLog found Output → ⊥) × (AsksForLog found (Syslog (at_local 5)) → ⊥) }
+    ensures output { (found : Found) (flag : MatchedArg) → found.entries.items ≡ (word (codes "log"), flag) ∷ []
+        → flag.vals.items ≡ word (codes "true") ∷ [] → AsksForLog found Output
+        × (AsksForLog found Nowhere → ⊥) × (AsksForLog found (Syslog (at_local 5)) → ⊥) }
+    ensures no_flag { (found : Found) (flag : MatchedArg) → found.entries.items ≡ (word (codes "log"), flag) ∷ []
+        → flag.vals.items ≡ word (codes "false") ∷ [] → AsksForLog found Nowhere }
+    ensures address { (found : Found) (value : MatchedArg) → found.entries.items ≡ (word (codes "log-to"), value) ∷ []
+        → value.vals.items ≡ word (local_text 5) ∷ [] → first_value found (codes "log-to") ≡ Some (local_text 5) }
+    ensures syslog { (found : Found) → first_value found (codes "log-to") ≡ Some (local_text 5)
+        → AsksForLog found (Syslog (at_local 5)) × (AsksForLog found Nowhere → ⊥) × (AsksForLog found Output → ⊥) }
+    ensures has_log { map has_log (Nowhere ∷ Output ∷ Syslog (at_local 5) ∷ []) ≡ false ∷ true ∷ true ∷ [] }
 {}
 
 /// Worked cases. What the commands do to a store by names, and what they ask for without a cluster file.

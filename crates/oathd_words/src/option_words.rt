@@ -361,10 +361,23 @@ pub(crate) const FOREVER: FlagWord = FlagWord {
 /// The flag that makes a node write a log.
 pub(crate) const LOG: FlagWord = FlagWord {
     name: "log",
-    conflicts: &[],
+    conflicts: &["log-to"],
     needs: &[],
     help: "Print a line for each answer, for each member that is heard or silent,\n\
         and for the start and the end",
+};
+
+/// The syslog to which a node sends its log.
+pub(crate) const LOG_TO: TextWord = TextWord {
+    name: "log-to",
+    value_name: Some("ADDRESS"),
+    is_required: false,
+    unless: None,
+    conflicts: &["log"],
+    needs: &[],
+    is_digit: false,
+    help: "Send the lines of --log to the syslog at ADDRESS instead, an IPv4\n\
+        address with a port: a datagram over UDP for each line",
 };
 
 /// The flag that makes a node take its users file again when it changes.

@@ -3,17 +3,20 @@
 //! Floor: the first free factor of a token at a node.
 
 ghost use Rattle.std.specs.Prelude.{◌≡◌, ◌≤◌, ℕ, false, true, None, Some, Option, codes, IfNone, IfOk, IfSome};
+ghost use Rattle.std.specs.Net.Grammar.{IsSocketV4Text};
 ghost use Rattle.std.specs.Option.{option_map};
+ghost use Rattle.std.specs.declared.net.socket_addr.SocketAddrV4.{SocketAddrV4 as AnyAddress};
 ghost use Rattle.clap.specs.Matches.{first_value, found_of};
 ghost use Rattle.otp_core.specs.Limits.{Limits};
 ghost use Rattle.vote_core.specs.NodeSet.{PlaceRecord};
 ghost use Rattle.oathd_words.specs.FormerWords.{former_given, former_value, is_of_former as spec_is_of_former};
 ghost use Rattle.oathd_words.specs.Given.{is_flag};
-ghost use Rattle.oathd_words.specs.StoreWords.{AsksForAction, AsksForClients, AsksForCluster, AsksForImport, GivesImport, GivesMoment, GivesPlace, begins, few_turns, takes_anybody, turns_given};
+ghost use Rattle.oathd_words.specs.StoreWords.{AsksForAction, AsksForClients, AsksForCluster, AsksForImport, AsksForLog, GivesImport, GivesMoment, GivesPlace, begins, few_turns, has_log, takes_anybody, turns_given};
 ghost use Rattle.oathd_words.specs.Words.{path_of_action};
 ghost use Rattle.oathd_words.specs.declared.store_words.Action.{Action as AnyAction};
 ghost use Rattle.oathd_words.specs.declared.store_words.ClusterWords.{ClusterWords as AnyCluster};
 ghost use Rattle.oathd_words.specs.declared.store_words.ImportWords.{ImportWords as AnyImport};
+ghost use Rattle.oathd_words.specs.declared.store_words.LogWords.{LogWords as AnyLog};
 
 use crate::former_words::{
     CountWords, FormerWords, count_words, former_words, is_of_former, paths_of,
@@ -47,6 +50,29 @@ pub enum ClusterWords<'a> {
         /// The path of the cluster file.
         path: &'a str,
     },
+}
+
+/// Where a node writes its log.
+#[derive(Clone, Copy, Drop)]
+pub enum LogWords {
+    /// It writes none.
+    Nowhere,
+    /// To standard output.
+    Output,
+    /// To the syslog at this address.
+    Syslog(SocketAddrV4),
+}
+
+impl LogWords {
+    /// Returns whether the node writes a log.
+    pub fn is_logged(self) -> bool
+        ensures { result ≡ has_log self }
+    {
+        match self {
+            LogWords::Nowhere => false,
+            LogWords::Output | LogWords::Syslog(_) => true,
+        }
+    }
 }
 
 /// The lines of clients that a node takes.
@@ -123,8 +149,8 @@ pub enum Action<'a> {
         cluster: ClusterWords<'a>,
         /// The number of receives: less than 2^54.
         turns: u64,
-        /// Whether the node writes a log.
-        is_logged: bool,
+        /// Where the node writes its log.
+        log: LogWords,
         clients: ClientWords<'a>,
         /// Whether the node takes its users file again when it changes.
         reloads: bool,
@@ -427,6 +453,32 @@ fn client_words<'a>(matches: &ArgMatches<'a>) -> ClientWords<'a>
     }
 }
 
+/// Returns the address of a syslog, or `None` if the text is no IPv4 address with a port.
+pub(crate) fn syslog_address(text: &str) -> Option<SocketAddrV4>
+    ensures some { IfSome result (IsSocketV4Text text.now) }
+    ensures none { IfNone result ((address : AnyAddress) → IsSocketV4Text text.now address → ⊥) }
+{
+    match SocketAddrV4::parse_ascii(text.as_bytes()) {
+        Ok(address) => Some(address),
+        Err(_) => None,
+    }
+}
+
+/// Returns where the node writes its log, or `None` if the address of a syslog is wrong.
+fn log_words(matches: &ArgMatches<'_>) -> Option<LogWords>
+    ensures some { IfSome result (AsksForLog (found_of matches.now)) }
+    ensures none { IfNone result ((log : AnyLog) → AsksForLog (found_of matches.now) log → ⊥) }
+{
+    match matches.get_str("log-to") {
+        Some(text) => {
+            let address = syslog_address(text)?;
+            Some(LogWords::Syslog(address))
+        }
+        None if is_given(matches, "log") => Some(LogWords::Output),
+        None => Some(LogWords::Nowhere),
+    }
+}
+
 /// Returns the action of `serve`, or `None` if a value is missing or wrong.
 fn serve_action<'a>(
     alloc: Global,
@@ -442,13 +494,15 @@ fn serve_action<'a>(
     let Some(turns) = turns_of(matches) else {
         return Ok(None);
     };
-    let is_logged = is_given(matches, "log");
+    let Some(log) = log_words(matches) else {
+        return Ok(None);
+    };
     let clients = client_words(matches);
     let reloads = is_given(matches, "reload");
     Ok(Some(Action::Serve {
         cluster,
         turns,
-        is_logged,
+        log,
         clients,
         reloads,
     }))

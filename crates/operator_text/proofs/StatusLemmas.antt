@@ -11,7 +11,9 @@ use Rattle.std.proofs.lemmas.List.Elements.{All-append, All-cons, All-map, All-n
 use Rattle.sealed_port.specs.declared.cause.Cause.{Cause}
 use Rattle.sealed_port.specs.declared.cause.Cause.TheVariants.{Form, Tag, Early, Late, Again, Limited}
 use Rattle.operator_text.specs.Page.{AreLines, IsLine}
-use Rattle.operator_text.specs.StatusLine.{IsPrint, IsSeen, IsStatusLine, cause_words, digits_line, line_text, number_line, quantity_word, refusal_words, seen_text}
+use Rattle.operator_text.specs.StatusLine.{IsPrint, IsSeen, IsStatusLine, bucket_words, cause_words, digits_line, line_text, number_line, quantity_word, refusal_words, seen_text}
+use Rattle.operator_text.specs.declared.commits.Bucket.{Bucket}
+use Rattle.operator_text.specs.declared.commits.Bucket.TheVariants as Buckets
 use Rattle.operator_text.specs.declared.status_line.Quantity.{Quantity}
 use Rattle.operator_text.specs.declared.status_line.Quantity.TheVariants as Quantities
 use Rattle.operator_text.specs.declared.status_line.Refusal.{Refusal}
@@ -19,7 +21,7 @@ use Rattle.operator_text.specs.declared.status_line.Refusal.TheVariants as Refus
 use Rattle.operator_text.specs.declared.status_line.Seen.{Seen}
 use Rattle.operator_text.specs.declared.status_line.Seen.TheVariants.{Heard, Silent, Differs}
 use Rattle.operator_text.specs.declared.status_line.StatusLine.{StatusLine}
-use Rattle.operator_text.specs.declared.status_line.StatusLine.TheVariants.{Node, Version, Fingerprint, Book, Number, Refused, Unopened, Member}
+use Rattle.operator_text.specs.declared.status_line.StatusLine.TheVariants.{Node, Version, Fingerprint, Book, Number, Refused, Commits, Unopened, Member}
 use Rattle.operator_text.proofs.ReadingLemmas.{HasNoLf, is_lf, no_lf_in_digits}
 
 -- ---- parts of a line
@@ -72,6 +74,8 @@ quantity_part Quantities.Received = word (codes "received") refl (omega arith)
 quantity_part Quantities.Replied = word (codes "replied") refl (omega arith)
 quantity_part Quantities.Accepted = word (codes "accepted") refl (omega arith)
 quantity_part Quantities.Ticks = word (codes "ticks") refl (omega arith)
+quantity_part Quantities.LargestBatch = word (codes "largest-batch") refl (omega arith)
+quantity_part Quantities.Commits = word (codes "commits") refl (omega arith)
 
 refusal_part : (refusal : Refusal) → IsPart 20 (refusal_words refusal)
 refusal_part Refusals.BadLine = word (codes "refused BADLINE") refl (omega arith)
@@ -84,6 +88,16 @@ refusal_part Refusals.Exhausted = word (codes "refused EXHAUSTED") refl (omega a
 refusal_part Refusals.Invalid = word (codes "refused INVALID") refl (omega arith)
 refusal_part Refusals.Spent = word (codes "refused SPENT") refl (omega arith)
 refusal_part Refusals.Timeout = word (codes "refused TIMEOUT") refl (omega arith)
+
+bucket_part : (bucket : Bucket) → IsPart 20 (bucket_words bucket)
+bucket_part Buckets.One = word (codes "commit-millis 1") refl (omega arith)
+bucket_part Buckets.Two = word (codes "commit-millis 2") refl (omega arith)
+bucket_part Buckets.Five = word (codes "commit-millis 5") refl (omega arith)
+bucket_part Buckets.Ten = word (codes "commit-millis 10") refl (omega arith)
+bucket_part Buckets.Twenty = word (codes "commit-millis 20") refl (omega arith)
+bucket_part Buckets.Fifty = word (codes "commit-millis 50") refl (omega arith)
+bucket_part Buckets.Hundred = word (codes "commit-millis 100") refl (omega arith)
+bucket_part Buckets.More = word (codes "commit-millis more") refl (omega arith)
 
 cause_part : (cause : Cause) → IsPart 20 (cause_words cause)
 cause_part Form = word (codes "unopened form") refl (omega arith)
@@ -132,6 +146,7 @@ is_line (Fingerprint digits) is = printed (codes "fingerprint") digits (word (co
 is_line (Book digits) is = printed (codes "book") digits (word (codes "book") refl (omega arith)) is
 is_line (Number quantity number) is = numbered (quantity_word quantity) number (quantity_part quantity) is
 is_line (Refused refusal number) is = numbered (refusal_words refusal) number (refusal_part refusal) is
+is_line (Commits bucket number) is = numbered (bucket_words bucket) number (bucket_part bucket) is
 is_line (Unopened cause number) is = numbered (cause_words cause) number (cause_part cause) is
 is_line (Member number seen) is =
     line_from 80 (codes "member " ++ decimal number ++ seen_text seen)

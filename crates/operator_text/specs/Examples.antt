@@ -3,6 +3,7 @@ use Rattle.std.specs.Prelude.{ℕ, false, true, List, [], ◌∷◌, ◌++◌, r
 use Rattle.sealed_port.specs.Causes.{nothing}
 use Rattle.sealed_port.specs.declared.cause.Unopened.{Unopened}
 use Rattle.operator_text.specs.Page.{PageRecord, PartRecord}
+use Rattle.operator_text.specs.declared.commits.CommitTimes.{CommitTimes}
 use Rattle.operator_text.specs.declared.status.Refused.{Refused}
 use Rattle.operator_text.specs.declared.status.Status.{Status}
 
@@ -45,11 +46,19 @@ refused_once = record {
   timeout = 10;
 }
 
+-- commits in each bucket, n in the n-th one
+abbrev pub commits_once : CommitTimes
+commits_once = record { one = 1; two = 2; five = 3; ten = 4; twenty = 5; fifty = 6; hundred = 7; more = 8 }
+
+-- no commits
+abbrev pub no_commits : CommitTimes
+no_commits = record { one = 0; two = 0; five = 0; ten = 0; twenty = 0; fifty = 0; hundred = 0; more = 0 }
+
 -- a datagram of each cause, the n-th one n times
 abbrev pub unopened_once : Unopened
 unopened_once = record { form = 1; tag = 2; early = 3; late = 4; again = 5; limited = 6 }
 
--- node 1 of 3 without a book, refusals, unopened datagrams and other members
+-- node 1 of 3 without a book, refusals, commits, unopened datagrams and other members
 abbrev pub first_status : Status
 first_status = record {
   node = 1;
@@ -79,6 +88,8 @@ first_status = record {
     timeout = 0;
   };
   ticks = 5;
+  largest_batch = 3;
+  commit_times = no_commits;
   unopened = nothing;
   others = record { items = [] };
 }

@@ -1,3 +1,4 @@
+pub mod Commits
 pub mod Examples
 pub mod Number
 pub mod Page

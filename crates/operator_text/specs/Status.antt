@@ -2,7 +2,10 @@
 use Rattle.std.specs.Prelude.{ℕ, ◌==◌, List, [], ◌∷◌, ◌++◌, map, IfSome, Option, Some, None, if◌then◌else◌}
 use Rattle.sealed_port.specs.declared.cause.Cause.TheVariants.{Form, Tag, Early, Late, Again, Limited}
 use Rattle.sealed_port.specs.declared.cause.Unopened.{Unopened}
+use Rattle.operator_text.specs.Commits.{commits_of}
 use Rattle.operator_text.specs.StatusLine.{IsPrint, line_text}
+use Rattle.operator_text.specs.declared.commits.Bucket.TheVariants as Buckets
+use Rattle.operator_text.specs.declared.commits.CommitTimes.{CommitTimes}
 use Rattle.operator_text.specs.declared.status.Other.{Other}
 use Rattle.operator_text.specs.declared.status.Refused.{Refused}
 use Rattle.operator_text.specs.declared.status.Status.{Status}
@@ -57,6 +60,22 @@ refused_lines refused =
     ++ if_any (Lines.Refused Refusals.Invalid) refused.invalid ++ if_any (Lines.Refused Refusals.Spent) refused.spent
     ++ if_any (Lines.Refused Refusals.Timeout) refused.timeout
 
+-- the commits in each bucket
+abbrev pub commit_lines : CommitTimes → List StatusLine
+commit_lines times =
+    if_any (Lines.Commits Buckets.One) times.one ++ if_any (Lines.Commits Buckets.Two) times.two
+    ++ if_any (Lines.Commits Buckets.Five) times.five ++ if_any (Lines.Commits Buckets.Ten) times.ten
+    ++ if_any (Lines.Commits Buckets.Twenty) times.twenty ++ if_any (Lines.Commits Buckets.Fifty) times.fifty
+    ++ if_any (Lines.Commits Buckets.Hundred) times.hundred ++ if_any (Lines.Commits Buckets.More) times.more
+
+-- the node's ticks, batches and commits
+abbrev pub batch_lines : Status → List StatusLine
+batch_lines status =
+    Lines.Number Quantities.Ticks status.ticks
+    ∷ Lines.Number Quantities.LargestBatch status.largest_batch
+    ∷ Lines.Number Quantities.Commits (commits_of status.commit_times)
+    ∷ commit_lines status.commit_times
+
 -- the datagrams that a node's gate didn't open
 abbrev pub unopened_lines : Unopened → List StatusLine
 unopened_lines unopened =
@@ -72,8 +91,7 @@ other_line other = Lines.Member other.number other.seen
 abbrev pub status_lines : Status → List StatusLine
 status_lines status =
     identity_lines status ++ book_lines status.book ++ token_lines status ++ refused_lines status.refused
-    ++ Lines.Number Quantities.Ticks status.ticks ∷ unopened_lines status.unopened
-    ++ map other_line status.others.items
+    ++ batch_lines status ++ unopened_lines status.unopened ++ map other_line status.others.items
 
 -- their texts
 abbrev pub status_text : Status → List (List ℕ)

@@ -5,6 +5,8 @@ use Rattle.std.specs.List.{list_all}
 use Rattle.std.specs.Fmt.{decimal}
 use Rattle.sealed_port.specs.declared.cause.Cause.{Cause}
 use Rattle.sealed_port.specs.declared.cause.Cause.TheVariants.{Form, Tag, Early, Late, Again, Limited}
+use Rattle.operator_text.specs.declared.commits.Bucket.{Bucket}
+use Rattle.operator_text.specs.declared.commits.Bucket.TheVariants as Buckets
 use Rattle.operator_text.specs.declared.status_line.Quantity.{Quantity}
 use Rattle.operator_text.specs.declared.status_line.Quantity.TheVariants as Quantities
 use Rattle.operator_text.specs.declared.status_line.Refusal.{Refusal}
@@ -12,7 +14,7 @@ use Rattle.operator_text.specs.declared.status_line.Refusal.TheVariants as Refus
 use Rattle.operator_text.specs.declared.status_line.Seen.{Seen}
 use Rattle.operator_text.specs.declared.status_line.Seen.TheVariants.{Heard, Silent, Differs}
 use Rattle.operator_text.specs.declared.status_line.StatusLine.{StatusLine}
-use Rattle.operator_text.specs.declared.status_line.StatusLine.TheVariants.{Node, Version, Fingerprint, Book, Number, Refused, Unopened, Member}
+use Rattle.operator_text.specs.declared.status_line.StatusLine.TheVariants.{Node, Version, Fingerprint, Book, Number, Refused, Commits, Unopened, Member}
 
 -- the word of a quantity
 abbrev pub quantity_word : Quantity → List ℕ
@@ -26,6 +28,8 @@ quantity_word Quantities.Received = codes "received"
 quantity_word Quantities.Replied = codes "replied"
 quantity_word Quantities.Accepted = codes "accepted"
 quantity_word Quantities.Ticks = codes "ticks"
+quantity_word Quantities.LargestBatch = codes "largest-batch"
+quantity_word Quantities.Commits = codes "commits"
 
 -- the words of a refusal, as in the answers to clients
 abbrev pub refusal_words : Refusal → List ℕ
@@ -39,6 +43,17 @@ refusal_words Refusals.Exhausted = codes "refused EXHAUSTED"
 refusal_words Refusals.Invalid = codes "refused INVALID"
 refusal_words Refusals.Spent = codes "refused SPENT"
 refusal_words Refusals.Timeout = codes "refused TIMEOUT"
+
+-- the words of a bucket: the longest time of its commits in milliseconds, or that they took longer
+abbrev pub bucket_words : Bucket → List ℕ
+bucket_words Buckets.One = codes "commit-millis 1"
+bucket_words Buckets.Two = codes "commit-millis 2"
+bucket_words Buckets.Five = codes "commit-millis 5"
+bucket_words Buckets.Ten = codes "commit-millis 10"
+bucket_words Buckets.Twenty = codes "commit-millis 20"
+bucket_words Buckets.Fifty = codes "commit-millis 50"
+bucket_words Buckets.Hundred = codes "commit-millis 100"
+bucket_words Buckets.More = codes "commit-millis more"
 
 -- the words of a cause for which a gate doesn't open a datagram
 abbrev pub cause_words : Cause → List ℕ
@@ -72,6 +87,7 @@ line_text (Fingerprint digits) = digits_line (codes "fingerprint") digits
 line_text (Book digits) = digits_line (codes "book") digits
 line_text (Number quantity number) = number_line (quantity_word quantity) number
 line_text (Refused refusal number) = number_line (refusal_words refusal) number
+line_text (Commits bucket number) = number_line (bucket_words bucket) number
 line_text (Unopened cause number) = number_line (cause_words cause) number
 line_text (Member number seen) = codes "member " ++ decimal number ++ seen_text seen ++ codes "\n"
 
@@ -93,5 +109,6 @@ IsStatusLine (Fingerprint digits) = IsPrint digits
 IsStatusLine (Book digits) = IsPrint digits
 IsStatusLine (Number quantity number) = number < 2 ^ 64
 IsStatusLine (Refused refusal number) = number < 2 ^ 64
+IsStatusLine (Commits bucket number) = number < 2 ^ 64
 IsStatusLine (Unopened cause number) = number < 2 ^ 64
 IsStatusLine (Member number seen) = (number < 2 ^ 64) × IsSeen seen

@@ -5,6 +5,7 @@
 //! (the law [`pages_are_the_report`]). A [`Status`] has the lines of the report STATUS. No function allocates.
 #![tactic(auto)]
 
+mod commits;
 mod laws;
 mod number;
 mod page;
@@ -18,6 +19,7 @@ mod status_line;
 mod tests;
 mod worked;
 
+pub use commits::{Bucket, CommitTimes};
 pub use laws::{
     pages_are_read, pages_are_the_report, replies_are_no_pages, requests_have_one_spelling,
 };
@@ -27,7 +29,8 @@ pub use reply::{Reply, read_reply, write_reply};
 pub use request::{MAX_REQUEST_LEN, Report, Request, read_request, write_request};
 pub use status::{MAX_STATUS_LINES, Other, Refused, Status, Version};
 pub use status_laws::{
-    status_is_a_report, status_lines_are_worked, status_lines_can_be_broken, statuses_are_worked,
+    commits_are_worked, status_is_a_report, status_lines_are_worked, status_lines_can_be_broken,
+    statuses_are_worked,
 };
 pub use status_line::{Quantity, Refusal, Seen, StatusLine};
 pub use worked::{

@@ -8,13 +8,14 @@ ghost use Rattle.operator_text.specs.Status.{HasPrints};
 ghost use Rattle.operator_text.specs.StatusLine.{IsStatusLine, line_text};
 ghost use Rattle.operator_text.specs.declared.status_line.StatusLine.TheVariants as Variants;
 
+use crate::commits::{Bucket, CommitTimes};
 use crate::page::MAX_LINE_LEN;
 use crate::status_line::{Quantity, Refusal, Seen, StatusLine};
 use arrayvec::ArrayVec;
 use sealed_port::{Cause, Unopened};
 
 /// The maximum number of lines of a STATUS report.
-pub const MAX_STATUS_LINES: usize = 38;
+pub const MAX_STATUS_LINES: usize = 48;
 
 /// The maximum number of other members.
 const MAX_OTHERS: usize = 8;
@@ -75,8 +76,11 @@ pub struct Status {
     pub replied: u64,
     pub accepted: u64,
     pub refused: Refused,
-    /// The number of the node's ticks.
+    /// The number of the node's ticks, and of the datagrams of its largest batch.
     pub ticks: u64,
+    pub largest_batch: u64,
+    /// The commits of batches, by the time that they took.
+    pub commit_times: CommitTimes,
     pub unopened: Unopened,
     /// The other members, in ascending order.
     pub others: ArrayVec<Other, MAX_OTHERS>,
@@ -87,7 +91,7 @@ type Lines = ArrayVec<StatusLine, MAX_STATUS_LINES>;
 
 /// Appends a line of a quantity.
 fn push_quantity(lines: &mut Lines, quantity: Quantity, number: u64)
-    requires { array_vec_len lines.old < 38 }
+    requires { array_vec_len lines.old < 48 }
     ensures items { lines.new.items ≡ lines.old.items ++ Variants.Number quantity number ∷ [] }
     ensures len { array_vec_len lines.new ≡ array_vec_len lines.old + 1 }
     ensures each { All IsStatusLine lines.old.items → All IsStatusLine lines.new.items }
@@ -97,7 +101,7 @@ fn push_quantity(lines: &mut Lines, quantity: Quantity, number: u64)
 
 /// Appends a line of a refusal, if its number isn't 0.
 fn push_refusal(lines: &mut Lines, refusal: Refusal, number: u64)
-    requires { array_vec_len lines.old < 38 }
+    requires { array_vec_len lines.old < 48 }
     ensures items { lines.new.items ≡ lines.old.items ++ spec.if_any (Variants.Refused refusal) number }
     ensures len { array_vec_len lines.new ≤ array_vec_len lines.old + 1 }
     ensures each { All IsStatusLine lines.old.items → All IsStatusLine lines.new.items }
@@ -107,9 +111,21 @@ fn push_refusal(lines: &mut Lines, refusal: Refusal, number: u64)
     }
 }
 
+/// Appends a line of a bucket, if its number isn't 0.
+fn push_commit(lines: &mut Lines, bucket: Bucket, number: u64)
+    requires { array_vec_len lines.old < 48 }
+    ensures items { lines.new.items ≡ lines.old.items ++ spec.if_any (Variants.Commits bucket) number }
+    ensures len { array_vec_len lines.new ≤ array_vec_len lines.old + 1 }
+    ensures each { All IsStatusLine lines.old.items → All IsStatusLine lines.new.items }
+{
+    if number != 0 {
+        lines.push(StatusLine::Commits(bucket, number));
+    }
+}
+
 /// Appends a line of a cause, if its number isn't 0.
 fn push_cause(lines: &mut Lines, cause: Cause, number: u64)
-    requires { array_vec_len lines.old < 38 }
+    requires { array_vec_len lines.old < 48 }
     ensures items { lines.new.items ≡ lines.old.items ++ spec.if_any (Variants.Unopened cause) number }
     ensures len { array_vec_len lines.new ≤ array_vec_len lines.old + 1 }
     ensures each { All IsStatusLine lines.old.items → All IsStatusLine lines.new.items }
@@ -121,7 +137,7 @@ fn push_cause(lines: &mut Lines, cause: Cause, number: u64)
 
 /// Appends the line of a node.
 fn push_node(lines: &mut Lines, node: u8, members: u8)
-    requires { array_vec_len lines.old < 38 }
+    requires { array_vec_len lines.old < 48 }
     ensures items { lines.new.items ≡ lines.old.items ++ Variants.Node node members ∷ [] }
     ensures len { array_vec_len lines.new ≡ array_vec_len lines.old + 1 }
     ensures each { All IsStatusLine lines.old.items → All IsStatusLine lines.new.items }
@@ -131,7 +147,7 @@ fn push_node(lines: &mut Lines, node: u8, members: u8)
 
 /// Appends the line of a version.
 fn push_version(lines: &mut Lines, major: u16, minor: u16, patch: u16)
-    requires { array_vec_len lines.old < 38 }
+    requires { array_vec_len lines.old < 48 }
     ensures items { lines.new.items ≡ lines.old.items ++ Variants.Version major minor patch ∷ [] }
     ensures len { array_vec_len lines.new ≡ array_vec_len lines.old + 1 }
     ensures each { All IsStatusLine lines.old.items → All IsStatusLine lines.new.items }
@@ -141,7 +157,7 @@ fn push_version(lines: &mut Lines, major: u16, minor: u16, patch: u16)
 
 /// Appends the line of another member.
 fn push_member(lines: &mut Lines, number: u8, seen: Seen)
-    requires { array_vec_len lines.old < 38 }
+    requires { array_vec_len lines.old < 48 }
     ensures items { lines.new.items ≡ lines.old.items ++ Variants.Member number seen ∷ [] }
     ensures len { array_vec_len lines.new ≡ array_vec_len lines.old + 1 }
     ensures each { All IsStatusLine lines.old.items → All IsStatusLine lines.new.items }
@@ -151,7 +167,7 @@ fn push_member(lines: &mut Lines, number: u8, seen: Seen)
 
 /// Appends the lines of refusals.
 fn push_refused(lines: &mut Lines, refused: &Refused)
-    requires { array_vec_len lines.old ≤ 28 }
+    requires { array_vec_len lines.old ≤ 38 }
     ensures items { lines.new.items ≡ lines.old.items ++ spec.refused_lines refused.now }
     ensures len { array_vec_len lines.new ≤ array_vec_len lines.old + 10 }
     ensures each { All IsStatusLine lines.old.items → All IsStatusLine lines.new.items }
@@ -168,9 +184,26 @@ fn push_refused(lines: &mut Lines, refused: &Refused)
     push_refusal(lines, Refusal::Timeout, refused.timeout);
 }
 
+/// Appends the lines of commits.
+fn push_commits(lines: &mut Lines, times: &CommitTimes)
+    requires { array_vec_len lines.old ≤ 40 }
+    ensures items { lines.new.items ≡ lines.old.items ++ spec.commit_lines times.now }
+    ensures len { array_vec_len lines.new ≤ array_vec_len lines.old + 8 }
+    ensures each { All IsStatusLine lines.old.items → All IsStatusLine lines.new.items }
+{
+    push_commit(lines, Bucket::One, times.one);
+    push_commit(lines, Bucket::Two, times.two);
+    push_commit(lines, Bucket::Five, times.five);
+    push_commit(lines, Bucket::Ten, times.ten);
+    push_commit(lines, Bucket::Twenty, times.twenty);
+    push_commit(lines, Bucket::Fifty, times.fifty);
+    push_commit(lines, Bucket::Hundred, times.hundred);
+    push_commit(lines, Bucket::More, times.more);
+}
+
 /// Appends the lines of datagrams that were not opened.
 fn push_unopened(lines: &mut Lines, unopened: &Unopened)
-    requires { array_vec_len lines.old ≤ 32 }
+    requires { array_vec_len lines.old ≤ 42 }
     ensures items { lines.new.items ≡ lines.old.items ++ spec.unopened_lines unopened.now }
     ensures len { array_vec_len lines.new ≤ array_vec_len lines.old + 6 }
     ensures each { All IsStatusLine lines.old.items → All IsStatusLine lines.new.items }
@@ -185,7 +218,7 @@ fn push_unopened(lines: &mut Lines, unopened: &Unopened)
 
 /// Appends the lines of other members.
 fn push_others(lines: &mut Lines, others: &[Other])
-    requires { array_vec_len lines.old + length others.now ≤ 38 }
+    requires { array_vec_len lines.old + length others.now ≤ 48 }
     ensures items { lines.new.items ≡ lines.old.items ++ map spec.other_line others.now }
     ensures each { All IsStatusLine lines.old.items → All IsStatusLine lines.new.items }
 {
@@ -207,7 +240,7 @@ fn text_at(lines: &[StatusLine], number: u32) -> Option<ArrayVec<u8, MAX_LINE_LE
 impl Status {
     /// Appends the lines of the node, its process and its keys.
     fn push_identity(&self, lines: &mut Lines)
-        requires { array_vec_len lines.old ≤ 32 }
+        requires { array_vec_len lines.old ≤ 42 }
         ensures items { lines.new.items ≡ lines.old.items ++ spec.identity_lines self.now }
         ensures len { array_vec_len lines.new ≡ array_vec_len lines.old + 6 }
         ensures each { HasPrints self.now → All IsStatusLine lines.old.items → All IsStatusLine lines.new.items }
@@ -227,7 +260,7 @@ impl Status {
 
     /// Appends the line of the book, if the store knows tokens by their names.
     fn push_book(&self, lines: &mut Lines)
-        requires { array_vec_len lines.old < 38 }
+        requires { array_vec_len lines.old < 48 }
         ensures items { lines.new.items ≡ lines.old.items ++ spec.book_lines self.now.book }
         ensures len { array_vec_len lines.new ≤ array_vec_len lines.old + 1 }
         ensures each { HasPrints self.now → All IsStatusLine lines.old.items → All IsStatusLine lines.new.items }
@@ -239,7 +272,7 @@ impl Status {
 
     /// Appends the lines of the node's tokens and answers.
     fn push_tokens(&self, lines: &mut Lines)
-        requires { array_vec_len lines.old ≤ 32 }
+        requires { array_vec_len lines.old ≤ 42 }
         ensures items { lines.new.items ≡ lines.old.items ++ spec.token_lines self.now }
         ensures len { array_vec_len lines.new ≡ array_vec_len lines.old + 6 }
         ensures each { All IsStatusLine lines.old.items → All IsStatusLine lines.new.items }
@@ -250,6 +283,19 @@ impl Status {
         push_quantity(lines, Quantity::Received, self.received);
         push_quantity(lines, Quantity::Replied, self.replied);
         push_quantity(lines, Quantity::Accepted, self.accepted);
+    }
+
+    /// Appends the lines of the node's ticks, batches and commits.
+    fn push_batches(&self, lines: &mut Lines)
+        requires { array_vec_len lines.old ≤ 37 }
+        ensures items { lines.new.items ≡ lines.old.items ++ spec.batch_lines self.now }
+        ensures len { array_vec_len lines.new ≤ array_vec_len lines.old + 11 }
+        ensures each { All IsStatusLine lines.old.items → All IsStatusLine lines.new.items }
+    {
+        push_quantity(lines, Quantity::Ticks, self.ticks);
+        push_quantity(lines, Quantity::LargestBatch, self.largest_batch);
+        push_quantity(lines, Quantity::Commits, self.commit_times.commits());
+        push_commits(lines, &self.commit_times);
     }
 
     /// Returns the lines of the report.
@@ -263,7 +309,7 @@ impl Status {
         self.push_book(&mut lines);
         self.push_tokens(&mut lines);
         push_refused(&mut lines, &self.refused);
-        push_quantity(&mut lines, Quantity::Ticks, self.ticks);
+        self.push_batches(&mut lines);
         push_unopened(&mut lines, &self.unopened);
         push_others(&mut lines, &self.others);
         lines

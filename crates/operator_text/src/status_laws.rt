@@ -1,9 +1,10 @@
 //! Laws and worked cases of STATUS reports.
 
 ghost use Rattle.std.specs.Prelude.{◌≡◌, ◌∷◌, ◌++◌, ◌^◌, ◌<◌, [], All, List, None, Some, codes, drop, length, map, replicate, take};
-ghost use Rattle.operator_text.specs.Examples.{first_status, refused_once, unopened_once};
+ghost use Rattle.operator_text.specs.Commits.{commits_of};
+ghost use Rattle.operator_text.specs.Examples.{commits_once, first_status, no_commits, refused_once, unopened_once};
 ghost use Rattle.operator_text.specs.Page.{AreLines, IsLine};
-ghost use Rattle.operator_text.specs.Status.{refused_lines, status_text, unopened_lines};
+ghost use Rattle.operator_text.specs.Status.{commit_lines, refused_lines, status_text, unopened_lines};
 ghost use Rattle.operator_text.specs.StatusLine.{IsStatusLine, line_text};
 ghost use Rattle.operator_text.specs.declared.status_line.Quantity.TheVariants as Quantities;
 ghost use Rattle.operator_text.specs.declared.status_line.Seen.TheVariants.{Differs, Heard, Silent};
@@ -35,6 +36,12 @@ pub fn status_lines_are_worked()
         ∷ codes "refused CLOCK 2\n" ∷ codes "refused BUSY 3\n" ∷ codes "refused UNKNOWN 4\n"
         ∷ codes "refused THROTTLED 5\n" ∷ codes "refused PASSWORD 6\n" ∷ codes "refused EXHAUSTED 7\n"
         ∷ codes "refused INVALID 8\n" ∷ codes "refused SPENT 9\n" ∷ codes "refused TIMEOUT 10\n" ∷ [] }
+    ensures batches { map line_text (Number Quantities.LargestBatch 64 ∷ Number Quantities.Commits 9 ∷ [])
+        ≡ codes "largest-batch 64\n" ∷ codes "commits 9\n" ∷ [] }
+    ensures commits { map line_text (commit_lines commits_once) ≡ codes "commit-millis 1 1\n"
+        ∷ codes "commit-millis 2 2\n" ∷ codes "commit-millis 5 3\n" ∷ codes "commit-millis 10 4\n"
+        ∷ codes "commit-millis 20 5\n" ∷ codes "commit-millis 50 6\n" ∷ codes "commit-millis 100 7\n"
+        ∷ codes "commit-millis more 8\n" ∷ [] }
     ensures causes { map line_text (unopened_lines unopened_once) ≡ codes "unopened form 1\n"
         ∷ codes "unopened tag 2\n" ∷ codes "unopened early 3\n" ∷ codes "unopened late 4\n"
         ∷ codes "unopened again 5\n" ∷ codes "unopened limited 6\n" ∷ [] }
@@ -42,31 +49,44 @@ pub fn status_lines_are_worked()
         ≡ codes "member 2 heard 3\n" ∷ codes "member 3 silent\n" ∷ codes "member 9 differs\n" ∷ [] }
 {}
 
-/// Worked cases. The lines of reports: without a book, refusals, datagrams and members, and with all of them.
+/// Worked cases. The lines of reports: without a book, refusals, commits, datagrams and members, and with all of
+/// them.
 pub fn statuses_are_worked()
     ensures least { status_text first_status ≡ codes "node 1 of 3\n" ∷ codes "boot 7\n" ∷ codes "version 0.9.0\n"
         ∷ codes "clock 1800000000\n" ∷ codes "started 1700000000\n" ∷ codes "fingerprint b1061f3a2d61dfbd\n"
         ∷ codes "tokens 2\n" ∷ codes "pending 0\n" ∷ codes "closed 1\n" ∷ codes "received 6\n" ∷ codes "replied 4\n"
-        ∷ codes "accepted 3\n" ∷ codes "ticks 5\n" ∷ [] }
+        ∷ codes "accepted 3\n" ∷ codes "ticks 5\n" ∷ codes "largest-batch 3\n" ∷ codes "commits 0\n" ∷ [] }
     ensures book { take 2 (drop 5 (status_text (record first_status { book = Some (codes "2a8f4a2865495c60") })))
         ≡ codes "fingerprint b1061f3a2d61dfbd\n" ∷ codes "book 2a8f4a2865495c60\n" ∷ [] }
     ensures refused { take 4 (drop 11 (status_text (record first_status
         { refused = record first_status.refused { clock = 8; spent = 1 } })))
         ≡ codes "accepted 3\n" ∷ codes "refused CLOCK 8\n" ∷ codes "refused SPENT 1\n" ∷ codes "ticks 5\n" ∷ [] }
-    ensures unopened { drop 12 (status_text (record first_status
+    ensures commits { drop 13 (status_text (record first_status
+        { commit_times = record no_commits { five = 20; more = 1 } }))
+        ≡ codes "largest-batch 3\n" ∷ codes "commits 21\n" ∷ codes "commit-millis 5 20\n"
+        ∷ codes "commit-millis more 1\n" ∷ [] }
+    ensures unopened { drop 14 (status_text (record first_status
         { unopened = record first_status.unopened { tag = 8; limited = 1 } }))
-        ≡ codes "ticks 5\n" ∷ codes "unopened tag 8\n" ∷ codes "unopened limited 1\n" ∷ [] }
-    ensures others { drop 12 (status_text (record first_status {
+        ≡ codes "commits 0\n" ∷ codes "unopened tag 8\n" ∷ codes "unopened limited 1\n" ∷ [] }
+    ensures others { drop 14 (status_text (record first_status {
       unopened = record first_status.unopened { form = 1 };
       others = record { items = record { number = 2; seen = Heard 0 } ∷ record { number = 3; seen = Silent } ∷ [] };
     }))
-        ≡ codes "ticks 5\n" ∷ codes "unopened form 1\n" ∷ codes "member 2 heard 0\n" ∷ codes "member 3 silent\n" ∷ [] }
+        ≡ codes "commits 0\n" ∷ codes "unopened form 1\n" ∷ codes "member 2 heard 0\n" ∷ codes "member 3 silent\n" ∷ [] }
     ensures most { length (status_text (record first_status {
       book = Some (replicate 16 48);
       refused = refused_once;
+      commit_times = commits_once;
       unopened = unopened_once;
       others = record { items = replicate 8 (record { number = 2; seen = Silent }) };
-    })) ≡ 38 }
+    })) ≡ 48 }
+{}
+
+/// Worked cases. The number of all commits.
+pub fn commits_are_worked()
+    ensures none { commits_of no_commits ≡ 0 }
+    ensures each { commits_of commits_once ≡ 36 }
+    ensures most { commits_of (record no_commits { one = 18446744073709551614; more = 2 }) ≡ 18446744073709551615 }
 {}
 
 /// Counterexamples: values of lines that a report has, and others.

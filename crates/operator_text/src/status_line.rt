@@ -6,6 +6,7 @@ ghost use Rattle.arrayvec.specs.ArrayVec.{array_vec_len};
 ghost use Rattle.operator_text.specs.StatusLine as spec;
 ghost use Rattle.operator_text.specs.declared.status_line.StatusLine.TheVariants as Lines;
 
+use crate::commits::Bucket;
 use crate::page::MAX_LINE_LEN;
 use arrayvec::ArrayVec;
 use itoa::Buffer;
@@ -34,6 +35,10 @@ pub enum Quantity {
     Accepted,
     /// The ticks of the node.
     Ticks,
+    /// The datagrams of the largest batch.
+    LargestBatch,
+    /// The commits of batches.
+    Commits,
 }
 
 /// The reason of a refusal, in the order in which a node looks for one.
@@ -77,6 +82,8 @@ pub enum StatusLine {
     Number(Quantity, u64),
     /// The number of refusals for a reason.
     Refused(Refusal, u64),
+    /// The number of commits in a bucket.
+    Commits(Bucket, u64),
     /// The number of datagrams that the node's gate didn't open for a cause.
     Unopened(Cause, u64),
     /// What the node sees of the member with the given number.
@@ -106,6 +113,8 @@ fn quantity_word(quantity: Quantity) -> &'static [u8]
         Quantity::Replied => b"replied",
         Quantity::Accepted => b"accepted",
         Quantity::Ticks => b"ticks",
+        Quantity::LargestBatch => b"largest-batch",
+        Quantity::Commits => b"commits",
     }
 }
 
@@ -125,6 +134,23 @@ fn refusal_words(refusal: Refusal) -> &'static [u8]
         Refusal::Invalid => b"refused INVALID",
         Refusal::Spent => b"refused SPENT",
         Refusal::Timeout => b"refused TIMEOUT",
+    }
+}
+
+/// Returns the words of a bucket.
+fn bucket_words(bucket: Bucket) -> &'static [u8]
+    ensures words { result.now ≡ spec.bucket_words bucket }
+    ensures len { length result.now ≤ 20 }
+{
+    match bucket {
+        Bucket::One => b"commit-millis 1",
+        Bucket::Two => b"commit-millis 2",
+        Bucket::Five => b"commit-millis 5",
+        Bucket::Ten => b"commit-millis 10",
+        Bucket::Twenty => b"commit-millis 20",
+        Bucket::Fifty => b"commit-millis 50",
+        Bucket::Hundred => b"commit-millis 100",
+        Bucket::More => b"commit-millis more",
     }
 }
 
@@ -246,6 +272,7 @@ impl StatusLine {
             StatusLine::Book(digits) => digits_line(b"book", digits),
             StatusLine::Number(quantity, number) => number_line(quantity_word(*quantity), *number),
             StatusLine::Refused(refusal, number) => number_line(refusal_words(*refusal), *number),
+            StatusLine::Commits(bucket, number) => number_line(bucket_words(*bucket), *number),
             StatusLine::Unopened(cause, number) => number_line(cause_words(*cause), *number),
             StatusLine::Member(number, seen) => member_line(*number, *seen),
         }

@@ -1,8 +1,8 @@
 //! Requests both ways, and a report in pages, as a client gathers it.
 
 use crate::{
-    Other, Page, Refused, Report, Request, Seen, Status, Version, read_page, read_request,
-    write_request,
+    CommitTimes, Other, Page, Refused, Report, Request, Seen, Status, Version, read_page,
+    read_request, write_request,
 };
 use arrayvec::ArrayVec;
 use sealed_port::Unopened;
@@ -26,6 +26,10 @@ accepted 3
 refused BADLINE 18446744073709551615
 refused INVALID 2
 ticks 5
+largest-batch 64
+commits 123
+commit-millis 5 120
+commit-millis more 3
 unopened tag 9
 member 2 heard 3
 member 3 differs
@@ -88,6 +92,12 @@ fn status() -> Status {
             ..Refused::default()
         },
         ticks: 5,
+        largest_batch: 64,
+        commit_times: CommitTimes {
+            five: 120,
+            more: 3,
+            ..CommitTimes::default()
+        },
         unopened: Unopened {
             tag: 9,
             ..Unopened::new()
@@ -108,7 +118,7 @@ fn tells_the_status(rt: HostRuntime) -> Result<(), Fail> {
     assert!(rt; read_page(&bytes) == Some((STATUS, None)));
     let first = status.write_line(0).ok_or_else(|| Fail::new("no line"))?;
     assert!(rt; first.as_slice() == b"node 1 of 3\n".as_slice());
-    assert!(rt; status.write_line(19).is_none());
+    assert!(rt; status.write_line(23).is_none());
     Ok(())
 }
 

@@ -1,5 +1,5 @@
 -- A datagram is a line or a request, and what a gate makes of it.
-use Rattle.std.proofs.Common.{◌≡◌, ℕ, Bool, true, false, cond, eqb, List, Option, Some, None, refl, sym, ap, ◌∙◌}
+use Rattle.std.proofs.Common.{◌≡◌, ℕ, Bool, true, false, cond, eqb, List, [], Option, Some, None, refl, sym, ap, ◌∙◌}
 use Rattle.std.specs.Prelude.{◌&&◌, ◌||◌, is_none, Result, Ok, Err}
 use Rattle.std.specs.Option.{option_map}
 use Rattle.std.specs.Result.{result_err, result_ok}
@@ -12,8 +12,9 @@ use Rattle.sealed_wire.specs.declared.head.Kind.{Kind}
 use Rattle.sealed_wire.specs.declared.head.Kind.TheVariants.{Line, Answer, Request, Report}
 use Rattle.sealed_port.specs.Aside.{AsideRecord}
 use Rattle.sealed_port.specs.Causes.{counted}
+use Rattle.sealed_port.specs.Draining.{busied, gate_busied, gate_handled, own_answer, turned_away}
 use Rattle.sealed_port.specs.Gate.{GateRecord, SealedLine, cause_of, gate_with, is_line, keeper_of, line_under, named, opened, ruling, ruling_on}
-use Rattle.sealed_port.specs.Port.{handed_line, handed_request, handed_sealed, stand_in}
+use Rattle.sealed_port.specs.Port.{handed_line, handed_request, handed_sealed, offer_of, stand_in}
 use Rattle.sealed_port.specs.Requests.{asks, asks_by, cause_came, gate_aside, gate_came, is_request, operator_named, operator_of, request_cause, request_ruling, requested, ruling_under}
 use Rattle.sealed_port.specs.declared.cause.Cause.{Cause}
 use Rattle.sealed_port.specs.declared.cause.Cause.TheVariants.{Form}
@@ -75,17 +76,46 @@ came_line gate now address bytes e =
     sym (ap (gate_aside (gate_with gate now address (opened gate now bytes))) (unasked gate now address bytes e)
     ∙ aside_nothing (gate_with gate now address (opened gate now bytes)))
 
--- after a request
-pub came_request : (gate : GateRecord) (now : Option ℕ) (address : ℕ) (bytes : List ℕ) → asks bytes ≡ true
-    → gate_aside gate (requested gate now address bytes) ≡ gate_came gate now address bytes
-came_request gate now address bytes e =
-    sym (ap (λ (line : Option SealedLine). gate_aside (gate_with gate now address line) (requested gate now address bytes)) (unlined gate now bytes e))
+-- after nothing
+came_nothing : (gate : GateRecord) (now : Option ℕ) (address : ℕ) (bytes : List ℕ) → opened gate now bytes ≡ None → requested gate now address bytes ≡ None
+    → gate_came gate now address bytes ≡ gate
+came_nothing gate now address bytes none unasked_so =
+    ap (λ (line : Option SealedLine). gate_aside (gate_with gate now address line) (requested gate now address bytes)) none
+    ∙ ap (gate_aside gate) unasked_so ∙ aside_nothing gate
+
+-- ---- the gate's own answer to a line that it turns away
+
+-- the gate after a line and the answer
+pub handled_line : (gate : GateRecord) (now : Option ℕ) (address : ℕ) (bytes : List ℕ) → asks bytes ≡ false
+    → gate_busied (gate_with gate now address (opened gate now bytes)) (turned_away gate (opened gate now bytes)) ≡ gate_handled gate now address bytes
+handled_line gate now address bytes e =
+    ap (λ (came : GateRecord). gate_busied came (turned_away gate (opened gate now bytes))) (came_line gate now address bytes e)
+
+pub answer_of_line : (gate : GateRecord) (now : Option ℕ) (address : ℕ) (bytes : List ℕ) → asks bytes ≡ false
+    → busied (gate_with gate now address (opened gate now bytes)) (turned_away gate (opened gate now bytes)) ≡ own_answer gate now address bytes
+answer_of_line gate now address bytes e =
+    ap (λ (came : GateRecord). busied came (turned_away gate (opened gate now bytes))) (came_line gate now address bytes e)
+
+-- what isn't opened as a line is not answered
+unanswered : (gate : GateRecord) (now : Option ℕ) (address : ℕ) (bytes : List ℕ) → opened gate now bytes ≡ None → own_answer gate now address bytes ≡ None
+unanswered gate now address bytes none = ap (λ (line : Option SealedLine). busied (gate_came gate now address bytes) (turned_away gate line)) none
+
+handled_unanswered : (gate : GateRecord) (now : Option ℕ) (address : ℕ) (bytes : List ℕ) → opened gate now bytes ≡ None
+    → gate_handled gate now address bytes ≡ gate_came gate now address bytes
+handled_unanswered gate now address bytes none =
+    ap (λ (line : Option SealedLine). gate_busied (gate_came gate now address bytes) (turned_away gate line)) none
+
+-- what isn't opened at all leaves the gate
+handled_nothing : (gate : GateRecord) (now : Option ℕ) (address : ℕ) (bytes : List ℕ) → opened gate now bytes ≡ None → requested gate now address bytes ≡ None
+    → gate_handled gate now address bytes ≡ gate
+handled_nothing gate now address bytes none unasked_so =
+    handled_unanswered gate now address bytes none ∙ came_nothing gate now address bytes none unasked_so
 
 -- ---- what is handed in for a datagram
 
 pub handed_of_line : (gate : GateRecord) (now : Option ℕ) (address : ℕ) (bytes : List ℕ) → asks bytes ≡ false
-    → handed_line (opened gate now bytes) ≡ handed_sealed gate now address bytes
-handed_of_line gate now address bytes e = sym (second_of (asks bytes) (handed_request (requested gate now address bytes)) (handed_line (opened gate now bytes)) e)
+    → handed_line gate (opened gate now bytes) ≡ handed_sealed gate now address bytes
+handed_of_line gate now address bytes e = sym (second_of (asks bytes) (handed_request (requested gate now address bytes)) (handed_line gate (opened gate now bytes)) e)
 
 pub cause_of_line : (gate : GateRecord) (now : Option ℕ) (address : ℕ) (bytes : List ℕ) → asks bytes ≡ false
     → cause_of gate now bytes ≡ cause_came gate now address bytes
@@ -100,7 +130,7 @@ pub handed_of_request : (gate : GateRecord) (now : Option ℕ) (address : ℕ) (
     → option_map (λ received. event_of_receive received buffer) (stand_in (requested gate now address bytes)) ≡ handed_sealed gate now address bytes
 handed_of_request gate now address bytes buffer e =
     stand_in_event (requested gate now address bytes) buffer
-    ∙ sym (first_of (asks bytes) (handed_request (requested gate now address bytes)) (handed_line (opened gate now bytes)) e)
+    ∙ sym (first_of (asks bytes) (handed_request (requested gate now address bytes)) (handed_line gate (opened gate now bytes)) e)
 
 pub cause_of_request : (gate : GateRecord) (now : Option ℕ) (address : ℕ) (bytes : List ℕ) → asks bytes ≡ true
     → request_cause gate now address bytes ≡ cause_came gate now address bytes
@@ -125,28 +155,38 @@ stands_not_in gate now address bytes cause e = caused (request_ruling gate now a
 
 -- ---- what is passed over
 
-line_is_none : (o : Option SealedLine) → handed_line o ≡ None → o ≡ None
-line_is_none None e = refl
-line_is_none (Some line) e = absurd cc
+line_is_none : (gate : GateRecord) (o : Option SealedLine) → handed_line gate o ≡ None → o ≡ None
+line_is_none gate None e = refl
+line_is_none gate (Some line) e = absurd cc
 
 request_is_none : (o : Option AsideRecord) → handed_request o ≡ None → o ≡ None
 request_is_none None e = refl
 request_is_none (Some request) e = absurd cc
 
--- a gate stays as it is if it hands in nothing
-pub unhanded_stays : (gate : GateRecord) (now : Option ℕ) (address : ℕ) (bytes : List ℕ) → handed_sealed gate now address bytes ≡ None → gate_came gate now address bytes ≡ gate
-unhanded_stays gate now address bytes e = go (asks bytes) refl e
+-- a gate that hands in nothing opened nothing
+unhanded : (gate : GateRecord) (now : Option ℕ) (address : ℕ) (bytes : List ℕ) → handed_sealed gate now address bytes ≡ None
+    → (opened gate now bytes ≡ None) × (requested gate now address bytes ≡ None)
+unhanded gate now address bytes e = go (asks bytes) refl e
   where
-    go : (b : Bool) → asks bytes ≡ b → cond b (handed_request (requested gate now address bytes)) (handed_line (opened gate now bytes)) ≡ None
-        → gate_came gate now address bytes ≡ gate
-    go true is none =
-        sym (came_request gate now address bytes is)
-        ∙ ap (gate_aside gate) (request_is_none (requested gate now address bytes) none) ∙ aside_nothing gate
-    go false is none = sym (came_line gate now address bytes is) ∙ ap (gate_with gate now address) (line_is_none (opened gate now bytes) none)
+    go : (b : Bool) → asks bytes ≡ b → cond b (handed_request (requested gate now address bytes)) (handed_line gate (opened gate now bytes)) ≡ None
+        → (opened gate now bytes ≡ None) × (requested gate now address bytes ≡ None)
+    go true is none = (unlined gate now bytes is, request_is_none (requested gate now address bytes) none)
+    go false is none = (line_is_none gate (opened gate now bytes) none, unasked gate now address bytes is)
 
-line_uncounted : (r : Result SealedLine Cause) (handed : PortEvent) (unopened : Unopened) → handed_line (result_ok r) ≡ Some handed → counted unopened (result_err r) ≡ unopened
-line_uncounted (Ok line) handed unopened e = refl
-line_uncounted (Err cause) handed unopened e = absurd cc
+-- it stays as it is
+pub unhanded_stays : (gate : GateRecord) (now : Option ℕ) (address : ℕ) (bytes : List ℕ) → handed_sealed gate now address bytes ≡ None
+    → gate_handled gate now address bytes ≡ gate
+unhanded_stays gate now address bytes e = let u = unhanded gate now address bytes e in handled_nothing gate now address bytes u.0 u.1
+
+-- it offers nothing
+pub unhanded_unanswered : (gate : GateRecord) (now : Option ℕ) (address : ℕ) (bytes : List ℕ) → handed_sealed gate now address bytes ≡ None
+    → offer_of (own_answer gate now address bytes) ≡ []
+unhanded_unanswered gate now address bytes e = ap offer_of (unanswered gate now address bytes (unhanded gate now address bytes e).0)
+
+line_uncounted : (gate : GateRecord) (r : Result SealedLine Cause) (handed : PortEvent) (unopened : Unopened) → handed_line gate (result_ok r) ≡ Some handed
+    → counted unopened (result_err r) ≡ unopened
+line_uncounted gate (Ok line) handed unopened e = refl
+line_uncounted gate (Err cause) handed unopened e = absurd cc
 
 request_uncounted : (r : Result AsideRecord Cause) (handed : PortEvent) (unopened : Unopened) → handed_request (result_ok r) ≡ Some handed
     → counted unopened (result_err r) ≡ unopened
@@ -158,10 +198,10 @@ pub handed_uncounted : (gate : GateRecord) (now : Option ℕ) (address : ℕ) (b
     → handed_sealed gate now address bytes ≡ Some handed → counted unopened (cause_came gate now address bytes) ≡ unopened
 handed_uncounted gate now address bytes handed unopened e = go (asks bytes) e
   where
-    go : (b : Bool) → cond b (handed_request (requested gate now address bytes)) (handed_line (opened gate now bytes)) ≡ Some handed
+    go : (b : Bool) → cond b (handed_request (requested gate now address bytes)) (handed_line gate (opened gate now bytes)) ≡ Some handed
         → counted unopened (cond b (request_cause gate now address bytes) (cause_of gate now bytes)) ≡ unopened
     go true some = request_uncounted (request_ruling gate now address bytes) handed unopened some
-    go false some = line_uncounted (ruling gate now bytes) handed unopened some
+    go false some = line_uncounted gate (ruling gate now bytes) handed unopened some
 
 -- ---- apart
 

@@ -1,4 +1,5 @@
 pub mod CameLemmas
+pub mod DrainLemmas
 pub mod LifeLemmas
 pub mod OpenLemmas
 pub mod PortLemmas

@@ -9,7 +9,7 @@ use Rattle.replay_window.specs.Window.{last_at, with_seen}
 use Rattle.replay_window.proofs.OnceLemmas.{ahead_stays, fresh_is_near}
 use Rattle.sealed_port.specs.Asked.{AskedRecord, clashes}
 use Rattle.sealed_port.specs.Gate.{GateRecord, SealedLine, admits, asked_of, gate_with, named, opened, with_moment}
-use Rattle.sealed_port.specs.Runs.{AreGatesInOrder, GateLife, IsGateBefore, Step, Comes, Answers, Takes, WasTold, gate_step, is_same, opened_in, opened_over, opening_of}
+use Rattle.sealed_port.specs.Runs.{AreGatesInOrder, GateLife, IsGateBefore, Step, Comes, Answers, Drains, Takes, WasTold, gate_step, is_same, opened_in, opened_over, opening_of}
 use Rattle.sealed_port.specs.declared.client.Client.{Client}
 use Rattle.sealed_port.proofs.OpenLemmas.{opened_law}
 use Rattle.sealed_port.proofs.RunLemmas.{all_append, named_stays, never_again_in, once_law}
@@ -72,6 +72,7 @@ near_now gate now address bytes steps line e =
 near_before : (gate : GateRecord) (step : Step) (steps : List Step) (line : AskedRecord) → IsNear (gate_step gate step) steps line → IsNear gate (step ∷ steps) line
 near_before gate (Answers client answer) steps line n = record { second = n.second; told = n.told; client = n.client; is_client = n.is_client; near = n.near }
 near_before gate Takes steps line n = record { second = n.second; told = n.told; client = n.client; is_client = n.is_client; near = n.near }
+near_before gate Drains steps line n = record { second = n.second; told = n.told; client = n.client; is_client = n.is_client; near = n.near }
 near_before gate (Comes now address bytes) steps line n = from (opened gate now bytes) n.is_client
   where
     go : (line' : SealedLine) (o : Option Client) → named line.client gate.clients ≡ o → option_map (with_moment line'.client line'.moment) o ≡ Some n.client → IsNear gate (Comes now address bytes ∷ steps) line
@@ -104,6 +105,9 @@ all_near gate (Answers client answer ∷ steps) =
 all_near gate (Takes ∷ steps) =
     all_of (IsNear (gate_step gate Takes) steps) (IsNear gate (Takes ∷ steps)) (near_before gate Takes steps)
     (opened_in (gate_step gate Takes) steps) (all_near (gate_step gate Takes) steps)
+all_near gate (Drains ∷ steps) =
+    all_of (IsNear (gate_step gate Drains) steps) (IsNear gate (Drains ∷ steps)) (near_before gate Drains steps)
+    (opened_in (gate_step gate Drains) steps) (all_near (gate_step gate Drains) steps)
 all_near gate (Comes now address bytes ∷ steps) =
     all_append (IsNear gate (Comes now address bytes ∷ steps)) (opening_of address (opened gate now bytes)) (opened_in (gate_step gate (Comes now address bytes)) steps)
     (from (opened gate now bytes) refl)

@@ -1,18 +1,21 @@
 -- What a gate makes of the events of the port below.
 use Rattle.std.proofs.Common.{◌≡◌, ℕ, ◌+◌, Bool, true, false, cond, List, [], ◌∷◌, ◌++◌, take, Option, Some, None, refl, sym, ap, subst, ◌∙◌, length-append}
 use Rattle.std.specs.List.{AllByRecursion}
+use Rattle.std.specs.Prelude.{Ok}
 use Rattle.std.specs.Option.{option_map}
+use Rattle.std.specs.Result.{result_err, result_ok}
 use Rattle.std.proofs.lemmas.List.{append_assoc, append-nil, map-append}
 use Rattle.datagram_port.specs.Port.{Grows, PortEvent, Received, Quiet, Faulted, Offered, event_of_receive}
 use Rattle.datagram_port.specs.declared.port.Received.{Received as Receive}
 use Rattle.datagram_port.specs.declared.port.Received.TheVariants.{Datagram, Quiet as QuietReceive, Fault}
 use Rattle.datagram_port.specs.declared.port.Sender.TheVariants.{Client, Peer}
 use Rattle.sealed_port.specs.Causes.{counted}
-use Rattle.sealed_port.specs.Gate.{GateRecord, is_plain}
-use Rattle.sealed_port.specs.Requests.{cause_came, gate_came}
-use Rattle.sealed_port.specs.Port.{Opens, Passed, PassesOver, TakesIn, counted_after, counted_over, event_of_passed, gate_after, handed_in, handed_sealed, sealed_from, told_for}
+use Rattle.sealed_port.specs.Gate.{GateRecord, Sealed, SealedLine, gate_with, is_plain, opened, ruling}
+use Rattle.sealed_port.specs.Draining.{busied, gate_busied, gate_handled, own_answer, turned_away}
+use Rattle.sealed_port.specs.Requests.{asks, cause_came}
+use Rattle.sealed_port.specs.Port.{Handles, Opens, Passed, PassesOver, TakesIn, TakesLine, counted_after, counted_over, event_of_passed, gate_after, handed_in, handed_line, handed_sealed, offer_of, own_offers, sealed_from, told_for}
 use Rattle.sealed_port.specs.declared.cause.Unopened.{Unopened}
-use Rattle.sealed_port.proofs.CameLemmas.{handed_uncounted, unhanded_stays}
+use Rattle.sealed_port.proofs.CameLemmas.{answer_of_line, cause_of_line, handed_of_line, handed_uncounted, handled_line, unhanded_stays, unhanded_unanswered}
 
 -- ---- records
 
@@ -29,14 +32,35 @@ grows_on None (Some b) (Some c) xs ys h k = absurd cc
 grows_on (Some a) (Some b) (Some c) xs ys h k =
     ap (λ l. Some l) (sym (append_assoc a xs ys)) ∙ ap (option_map (λ zs. zs ++ ys)) h ∙ k
 
+-- ---- one datagram
+
+-- a line that the gate opened
+pub line_taken : (old_port new_port : Option (List PortEvent)) (old_clock new_clock : Option (List (Option ℕ))) (gate new : GateRecord) (before after : Unopened) (address : ℕ) (bytes : List ℕ)
+    (now : Option ℕ) (line : SealedLine) (handed : PortEvent) → asks bytes ≡ false → Grows old_clock new_clock (now ∷ []) → ruling gate now bytes ≡ Ok line → after ≡ before
+    → TakesLine gate new now address line old_port new_port handed
+    → Handles old_port new_port old_clock new_clock gate new before after address bytes (Some handed)
+line_taken old_port new_port old_clock new_clock gate new before after address bytes now line handed unasked told rules uncounted t =
+    let is : opened gate now bytes ≡ Some line = ap result_ok rules in
+    record {
+      now = now;
+      clock = told;
+      port = subst (λ (answer : Option Sealed). Grows old_port new_port (offer_of answer)) (answer_of_line gate now address bytes unasked)
+          (subst (λ (found : Option SealedLine). Grows old_port new_port (offer_of (busied (gate_with gate now address found) (turned_away gate found)))) (sym is) t.port);
+      handed_is = t.handed_is ∙ ap (handed_line gate) (sym is) ∙ handed_of_line gate now address bytes unasked;
+      gate_is = t.gate_is ∙ ap (λ (found : Option SealedLine). gate_busied (gate_with gate now address found) (turned_away gate found)) (sym is)
+          ∙ handled_line gate now address bytes unasked;
+      counts = uncounted ∙ ap (counted before) (sym (ap result_err rules) ∙ cause_of_line gate now address bytes unasked);
+    }
+
 -- ---- one event
 
 -- the claim if the clock isn't asked
-unasked : (moments : Option (List (Option ℕ))) (gate : GateRecord) (unopened : Unopened) (entry : PortEvent)
+unasked : (port : Option (List PortEvent)) (moments : Option (List (Option ℕ))) (gate : GateRecord) (unopened : Unopened) (entry : PortEvent)
     → handed_in gate None entry ≡ Some entry → gate_after gate None entry ≡ gate → told_for gate None entry ≡ [] → counted_after gate unopened None entry ≡ unopened
-    → TakesIn moments moments gate gate unopened unopened entry (Some entry)
-unasked moments gate unopened entry handed same untold uncounted = record {
+    → own_offers gate None entry ≡ [] → TakesIn port port moments moments gate gate unopened unopened entry (Some entry)
+unasked port moments gate unopened entry handed same untold uncounted unoffered = record {
   now = None;
+  port = subst (Grows port port) (sym unoffered) (stays port);
   clock = subst (Grows moments moments) (sym untold) (stays moments);
   handed_is = sym handed;
   gate_is = sym same;
@@ -60,47 +84,50 @@ some_is_sealed true one found e = absurd cc
 some_is_sealed false one found e = (refl, cc)
 
 -- what isn't from the address of a client who speaks sealed goes through as it is
-pub kept : (moments : Option (List (Option ℕ))) (gate : GateRecord) (unopened : Unopened) (received : Receive) (buffer : List ℕ) → sealed_from gate received ≡ None
-    → TakesIn moments moments gate gate unopened unopened (event_of_receive received buffer) (Some (event_of_receive received buffer))
-kept moments gate unopened (Datagram (Client address) len) buffer e =
+pub kept : (port : Option (List PortEvent)) (moments : Option (List (Option ℕ))) (gate : GateRecord) (unopened : Unopened) (received : Receive) (buffer : List ℕ)
+    → sealed_from gate received ≡ None
+    → TakesIn port port moments moments gate gate unopened unopened (event_of_receive received buffer) (Some (event_of_receive received buffer))
+kept port moments gate unopened (Datagram (Client address) len) buffer e =
     let bytes = take len buffer in
     let plain = none_is_plain (is_plain gate address) (address, len) e in
-    unasked moments gate unopened (Received (Client address) bytes)
+    unasked port moments gate unopened (Received (Client address) bytes)
     (front (is_plain gate address) (Some (Received (Client address) bytes)) (handed_sealed gate None address bytes) plain)
-    (front (is_plain gate address) gate (gate_came gate None address bytes) plain)
+    (front (is_plain gate address) gate (gate_handled gate None address bytes) plain)
     (front (is_plain gate address) [] (None ∷ []) plain)
     (front (is_plain gate address) unopened (counted unopened (cause_came gate None address bytes)) plain)
-kept moments gate unopened (Datagram (Peer number) len) buffer e = unasked moments gate unopened (Received (Peer number) (take len buffer)) refl refl refl refl
-kept moments gate unopened QuietReceive buffer e = unasked moments gate unopened (event_of_receive QuietReceive buffer) refl refl refl refl
-kept moments gate unopened Fault buffer e = unasked moments gate unopened (event_of_receive Fault buffer) refl refl refl refl
+    (front (is_plain gate address) [] (offer_of (own_answer gate None address bytes)) plain)
+kept port moments gate unopened (Datagram (Peer number) len) buffer e = unasked port moments gate unopened (Received (Peer number) (take len buffer)) refl refl refl refl refl
+kept port moments gate unopened QuietReceive buffer e = unasked port moments gate unopened (event_of_receive QuietReceive buffer) refl refl refl refl refl
+kept port moments gate unopened Fault buffer e = unasked port moments gate unopened (event_of_receive Fault buffer) refl refl refl refl refl
 
 -- a datagram from such an address is opened, or passed over and counted
-pub taken : (old_clock new_clock : Option (List (Option ℕ))) (gate after : GateRecord) (before counts : Unopened) (received : Receive) (buffer : List ℕ) (address len : ℕ) (handed : Option PortEvent)
+pub taken : (old_port new_port : Option (List PortEvent)) (old_clock new_clock : Option (List (Option ℕ))) (gate after : GateRecord) (before counts : Unopened) (received : Receive) (buffer : List ℕ) (address len : ℕ) (handed : Option PortEvent)
     → sealed_from gate received ≡ Some (address, len)
-    → ((now : Option ℕ) × Grows old_clock new_clock (now ∷ []) × (handed ≡ handed_sealed gate now address (take len buffer))
-    × (after ≡ gate_came gate now address (take len buffer))
-    × (counts ≡ counted before (cause_came gate now address (take len buffer))))
-    → TakesIn old_clock new_clock gate after before counts (event_of_receive received buffer) handed
-taken old_clock new_clock gate after before counts (Datagram (Client from) size) buffer address len handed e answer =
+    → Handles old_port new_port old_clock new_clock gate after before counts address (take len buffer) handed
+    → TakesIn old_port new_port old_clock new_clock gate after before counts (event_of_receive received buffer) handed
+taken old_port new_port old_clock new_clock gate after before counts (Datagram (Client from) size) buffer address len handed e answer =
     let found = some_is_sealed (is_plain gate from) (from, size) (address, len) e in
     let same_from : from ≡ address = ap (λ (p : ℕ × ℕ). p.0) found.1 in
     let same_size : size ≡ len = ap (λ (p : ℕ × ℕ). p.1) found.1 in
-    let now = answer.0 in
+    let now = answer.now in
     let bytes = take size buffer in
     let bytes_same : take len buffer ≡ bytes = ap (λ (n : ℕ). take n buffer) (sym same_size) in
     record {
       now = now;
-      clock = subst (Grows old_clock new_clock) (sym (back (is_plain gate from) [] (now ∷ []) found.0)) answer.1;
-      handed_is = answer.2 ∙ ap (λ (b : List ℕ). handed_sealed gate now address b) bytes_same ∙ ap (λ (a : ℕ). handed_sealed gate now a bytes) (sym same_from)
+      port = subst (Grows old_port new_port) (ap (λ (b : List ℕ). offer_of (own_answer gate now address b)) bytes_same
+          ∙ ap (λ (a : ℕ). offer_of (own_answer gate now a bytes)) (sym same_from)
+          ∙ sym (back (is_plain gate from) [] (offer_of (own_answer gate now from bytes)) found.0)) answer.port;
+      clock = subst (Grows old_clock new_clock) (sym (back (is_plain gate from) [] (now ∷ []) found.0)) answer.clock;
+      handed_is = answer.handed_is ∙ ap (λ (b : List ℕ). handed_sealed gate now address b) bytes_same ∙ ap (λ (a : ℕ). handed_sealed gate now a bytes) (sym same_from)
           ∙ sym (back (is_plain gate from) (Some (Received (Client from) bytes)) (handed_sealed gate now from bytes) found.0);
-      gate_is = answer.3 ∙ ap (λ (b : List ℕ). gate_came gate now address b) bytes_same ∙ ap (λ (a : ℕ). gate_came gate now a bytes) (sym same_from)
-          ∙ sym (back (is_plain gate from) gate (gate_came gate now from bytes) found.0);
-      counts = answer.4 ∙ ap (λ (b : List ℕ). counted before (cause_came gate now address b)) bytes_same ∙ ap (λ (a : ℕ). counted before (cause_came gate now a bytes)) (sym same_from)
+      gate_is = answer.gate_is ∙ ap (λ (b : List ℕ). gate_handled gate now address b) bytes_same ∙ ap (λ (a : ℕ). gate_handled gate now a bytes) (sym same_from)
+          ∙ sym (back (is_plain gate from) gate (gate_handled gate now from bytes) found.0);
+      counts = answer.counts ∙ ap (λ (b : List ℕ). counted before (cause_came gate now address b)) bytes_same ∙ ap (λ (a : ℕ). counted before (cause_came gate now a bytes)) (sym same_from)
           ∙ sym (back (is_plain gate from) before (counted before (cause_came gate now from bytes)) found.0);
     }
-taken old_clock new_clock gate after before counts (Datagram (Peer number) size) buffer address len handed e answer = absurd cc
-taken old_clock new_clock gate after before counts QuietReceive buffer address len handed e answer = absurd cc
-taken old_clock new_clock gate after before counts Fault buffer address len handed e answer = absurd cc
+taken old_port new_port old_clock new_clock gate after before counts (Datagram (Peer number) size) buffer address len handed e answer = absurd cc
+taken old_port new_port old_clock new_clock gate after before counts QuietReceive buffer address len handed e answer = absurd cc
+taken old_port new_port old_clock new_clock gate after before counts Fault buffer address len handed e answer = absurd cc
 
 -- ---- what is passed over
 
@@ -111,6 +138,7 @@ record IsPassed (gate : GateRecord) (now : Option ℕ) (event : PortEvent) (befo
   now_is : one.now ≡ now
   told_is : told_for gate now event ≡ one.now ∷ []
   gate_is : gate_after gate now event ≡ gate
+  offers_are : own_offers gate now event ≡ []
   counts_are : counted_after gate before now event ≡ counted before (cause_came gate one.now one.address one.bytes)
 
 unhanded : (b : Bool) (x : PortEvent) (o : Option PortEvent) → cond b (Some x) o ≡ None → (b ≡ false) × (o ≡ None)
@@ -125,7 +153,8 @@ passed_is gate now (Received (Client address) bytes) before e =
       event_is = refl;
       now_is = refl;
       told_is = back (is_plain gate address) [] (now ∷ []) u.0;
-      gate_is = back (is_plain gate address) gate (gate_came gate now address bytes) u.0 ∙ unhanded_stays gate now address bytes u.1;
+      gate_is = back (is_plain gate address) gate (gate_handled gate now address bytes) u.0 ∙ unhanded_stays gate now address bytes u.1;
+      offers_are = back (is_plain gate address) [] (offer_of (own_answer gate now address bytes)) u.0 ∙ unhanded_unanswered gate now address bytes u.1;
       counts_are = back (is_plain gate address) before (counted before (cause_came gate now address bytes)) u.0;
     }
 passed_is gate now (Received (Peer number) bytes) before e = absurd cc
@@ -157,19 +186,21 @@ none_passed port clock gate unopened = record {
 }
 
 -- one more is passed over
-pub one_passed : {old_port port new_port : Option (List PortEvent)} {old_clock clock new_clock : Option (List (Option ℕ))} {gate now_gate after : GateRecord} {before counts last : Unopened}
+pub one_passed : {old_port port next_port new_port : Option (List PortEvent)} {old_clock clock new_clock : Option (List (Option ℕ))} {gate now_gate after : GateRecord} {before counts last : Unopened}
     {number : ℕ} {event : PortEvent}
-    → PassesOver old_port port old_clock clock gate now_gate before counts number → Grows port new_port (event ∷ [])
-    → TakesIn clock new_clock now_gate after counts last event None
+    → PassesOver old_port port old_clock clock gate now_gate before counts number → Grows port next_port (event ∷ [])
+    → TakesIn next_port new_port clock new_clock now_gate after counts last event None
     → PassesOver old_port new_port old_clock new_clock gate after before last (number + 1)
-one_passed {old_port = old_port} {port = port} {new_port = new_port} {old_clock = old_clock} {clock = clock} {new_clock = new_clock} {gate = gate} {after = after} {before = before} {counts = counts} {last = last} {number = number} {event = event} p grows t =
-    from (subst (λ (g : GateRecord). TakesIn clock new_clock g after counts last event None) p.gate_is t)
+one_passed {old_port = old_port} {port = port} {next_port = next_port} {new_port = new_port} {old_clock = old_clock} {clock = clock} {new_clock = new_clock} {gate = gate} {after = after} {before = before} {counts = counts} {last = last} {number = number} {event = event} p grows t =
+    from (subst (λ (g : GateRecord). TakesIn next_port new_port clock new_clock g after counts last event None) p.gate_is t)
   where
-    from : TakesIn clock new_clock gate after counts last event None → PassesOver old_port new_port old_clock new_clock gate after before last (number + 1)
+    from : TakesIn next_port new_port clock new_clock gate after counts last event None → PassesOver old_port new_port old_clock new_clock gate after before last (number + 1)
     from t =
         let i = passed_is gate t.now event counts (sym t.handed_is) in
         let told : Grows clock new_clock (i.one.now ∷ []) = subst (Grows clock new_clock) i.told_is t.clock in
-        let entry : Grows port new_port (event_of_passed i.one ∷ []) = subst (λ (x : PortEvent). Grows port new_port (x ∷ [])) (sym i.event_is) grows in
+        let more : Grows port new_port (event ∷ own_offers gate t.now event) = grows_on port next_port new_port (event ∷ []) (own_offers gate t.now event) grows t.port in
+        let only : Grows port new_port (event ∷ []) = subst (λ (offers : List PortEvent). Grows port new_port (event ∷ offers)) i.offers_are more in
+        let entry : Grows port new_port (event_of_passed i.one ∷ []) = subst (λ (x : PortEvent). Grows port new_port (x ∷ [])) (sym i.event_is) only in
         let unhanded_so : handed_in gate i.one.now (event_of_passed i.one) ≡ None =
         ap (λ (x : PortEvent). handed_in gate i.one.now x) i.event_is ∙ ap (λ (n : Option ℕ). handed_in gate n event) i.now_is ∙ sym t.handed_is in
         record {
@@ -196,21 +227,21 @@ uncounted gate unopened now Faulted handed e = refl
 uncounted gate unopened now (Offered to bytes) handed e = refl
 
 -- then an event is handed in
-pub one_handed : {old_port port new_port : Option (List PortEvent)} {old_clock clock new_clock : Option (List (Option ℕ))} {gate now_gate after : GateRecord} {before counts last : Unopened}
+pub one_handed : {old_port port next_port new_port : Option (List PortEvent)} {old_clock clock new_clock : Option (List (Option ℕ))} {gate now_gate after : GateRecord} {before counts last : Unopened}
     {number : ℕ} {event handed : PortEvent}
-    → PassesOver old_port port old_clock clock gate now_gate before counts number → Grows port new_port (event ∷ [])
-    → TakesIn clock new_clock now_gate after counts last event (Some handed)
+    → PassesOver old_port port old_clock clock gate now_gate before counts number → Grows port next_port (event ∷ [])
+    → TakesIn next_port new_port clock new_clock now_gate after counts last event (Some handed)
     → Opens old_port new_port old_clock new_clock gate after before last handed
-one_handed {old_port = old_port} {port = port} {new_port = new_port} {old_clock = old_clock} {clock = clock} {new_clock = new_clock} {gate = gate} {after = after} {before = before} {counts = counts} {last = last} {event = event} {handed = handed} p grows t =
-    from (subst (λ (g : GateRecord). TakesIn clock new_clock g after counts last event (Some handed)) p.gate_is t)
+one_handed {old_port = old_port} {port = port} {next_port = next_port} {new_port = new_port} {old_clock = old_clock} {clock = clock} {new_clock = new_clock} {gate = gate} {after = after} {before = before} {counts = counts} {last = last} {event = event} {handed = handed} p grows t =
+    from (subst (λ (g : GateRecord). TakesIn next_port new_port clock new_clock g after counts last event (Some handed)) p.gate_is t)
   where
-    from : TakesIn clock new_clock gate after counts last event (Some handed) → Opens old_port new_port old_clock new_clock gate after before last handed
+    from : TakesIn next_port new_port clock new_clock gate after counts last event (Some handed) → Opens old_port new_port old_clock new_clock gate after before last handed
     from t = record {
       passed = p.passed;
       are_passed_over = p.are_passed_over;
       received = event;
       now = t.now;
-      port = grows_on old_port port new_port _ _ p.port grows;
+      port = grows_on old_port port new_port _ _ p.port (grows_on port next_port new_port (event ∷ []) (own_offers gate t.now event) grows t.port);
       clock = grows_on old_clock clock new_clock _ _ p.clock t.clock;
       handed_is = sym t.handed_is;
       gate_is = t.gate_is;

@@ -14,7 +14,7 @@ use Rattle.sealed_port.specs.Gate.{GateRecord, Sealed, opened}
 use Rattle.sealed_port.specs.ReportWorld.{GatesReport, HasOperatorKey, IsAmongRequests, IsReportFor, IsReported, WasReported}
 use Rattle.sealed_port.specs.RequestRuns.{aside_in, listed, taken_in}
 use Rattle.sealed_port.specs.Requests.{gate_came, operator_named, operator_with, operators_with, report_under, reported, request_head, requested}
-use Rattle.sealed_port.specs.Runs.{Answers, Comes, Step, Takes, gate_run, gate_step}
+use Rattle.sealed_port.specs.Runs.{Answers, Comes, Step, Drains, Takes, gate_run, gate_step}
 use Rattle.sealed_port.specs.World.{ComeUnforged}
 use Rattle.sealed_port.specs.declared.operator.Operator.{Operator}
 use Rattle.sealed_port.proofs.RequestLemmas.{came_operators, named_with, queue_law, request_law}
@@ -114,6 +114,8 @@ aside_is_made key made number gate (Answers client answer ∷ steps) request mak
     aside_is_made key made number (gate_step gate (Answers client answer)) steps request makings has come among of_number
 aside_is_made key made number gate (Takes ∷ steps) request makings has come among of_number =
     aside_is_made key made number (gate_step gate Takes) steps request makings has come among of_number
+aside_is_made key made number gate (Drains ∷ steps) request makings has come among of_number =
+    aside_is_made key made number (gate_step gate Drains) steps request makings has come among of_number
 aside_is_made key made number gate (Comes now address bytes ∷ steps) request makings has come among of_number =
     elim (among_parts (listed (requested gate now address bytes)) (aside_in (gate_came gate now address bytes) steps) request among) as (λ k. RequestMade key made gate.node request) [
       | inl front ↦ here (requested gate now address bytes) refl front

@@ -19,7 +19,7 @@ use Rattle.sealed_port.specs.Causes.{cause_by}
 use Rattle.sealed_port.specs.Gate.{GateRecord, SealedLine, gate_with, opened}
 use Rattle.sealed_port.specs.RequestRuns.{AreOperatorsBefore, AreOperatorsInOrder, IsRequestOf, aside_in, aside_over, is_same_request, listed, taken_in}
 use Rattle.sealed_port.specs.Requests.{aside_with, gate_came, is_request, operator_named, operator_of, operator_with, operators_with, request_with, requested, ruling_read, ruling_told, ruling_under}
-use Rattle.sealed_port.specs.Runs.{GateLife, Step, Comes, Answers, Takes, WasTold, gate_run, gate_step}
+use Rattle.sealed_port.specs.Runs.{GateLife, Step, Comes, Answers, Drains, Takes, WasTold, gate_run, gate_step}
 use Rattle.sealed_port.specs.declared.operator.Operator.{Operator}
 use Rattle.sealed_port.proofs.RunLemmas.{all_append, and_false, bool_cases, covers_here, is_itself, keeps_cover, number_stays}
 
@@ -200,6 +200,7 @@ never_again : (gate : GateRecord) (steps : List Step) (one : AsideRecord) → Is
 never_again gate [] one seen = tt
 never_again gate (Answers client answer ∷ steps) one seen = never_again (gate_step gate (Answers client answer)) steps one seen
 never_again gate (Takes ∷ steps) one seen = never_again (gate_step gate Takes) steps one seen
+never_again gate (Drains ∷ steps) one seen = never_again (gate_step gate Drains) steps one seen
 never_again gate (Comes now address bytes ∷ steps) one seen =
     all_append (λ y. is_same_request one y ≡ false) (listed (requested gate now address bytes)) (aside_in (gate_came gate now address bytes) steps)
     (from (requested gate now address bytes) refl)
@@ -216,6 +217,7 @@ unfolding IsDistinct
 aside_law gate [] = tt
 aside_law gate (Answers client answer ∷ steps) = aside_law (gate_step gate (Answers client answer)) steps
 aside_law gate (Takes ∷ steps) = aside_law (gate_step gate Takes) steps
+aside_law gate (Drains ∷ steps) = aside_law (gate_step gate Drains) steps
 aside_law gate (Comes now address bytes ∷ steps) = from (requested gate now address bytes) refl (aside_law (gate_came gate now address bytes) steps)
   where
     from : (o : Option AsideRecord) → requested gate now address bytes ≡ o → IsDistinct is_same_request (aside_in (gate_came gate now address bytes) steps)
@@ -246,6 +248,7 @@ queue_law gate (Answers client answer ∷ steps) = queue_law (gate_step gate (An
 queue_law gate (Takes ∷ steps) =
     taken_first gate.aside (aside_in (gate_step gate Takes) steps) (taken_in (gate_step gate Takes) steps) (gate_run (gate_step gate Takes) steps).aside
     (queue_law (gate_step gate Takes) steps)
+queue_law gate (Drains ∷ steps) = queue_law (gate_step gate Drains) steps
 queue_law gate (Comes now address bytes ∷ steps) =
     let more = aside_in (gate_came gate now address bytes) steps in
     aside_is (requested gate now address bytes) gate.aside more
@@ -298,6 +301,7 @@ close_before : (gate : GateRecord) (step : Step) (steps : List Step) (request : 
 close_before gate (Answers client answer) steps request n =
     record { second = n.second; told = n.told; operator = n.operator; is_operator = n.is_operator; near = n.near }
 close_before gate Takes steps request n = record { second = n.second; told = n.told; operator = n.operator; is_operator = n.is_operator; near = n.near }
+close_before gate Drains steps request n = record { second = n.second; told = n.told; operator = n.operator; is_operator = n.is_operator; near = n.near }
 close_before gate (Comes now address bytes) steps request n =
     from (requested gate now address bytes) (subst (λ (all : List Operator). operator_named request.number all ≡ Some n.operator) (sym (came_operators gate now address bytes)) n.is_operator)
   where
@@ -333,6 +337,9 @@ all_close gate (Answers client answer ∷ steps) =
 all_close gate (Takes ∷ steps) =
     all_of (IsClose (gate_step gate Takes) steps) (IsClose gate (Takes ∷ steps)) (close_before gate Takes steps)
     (aside_in (gate_step gate Takes) steps) (all_close (gate_step gate Takes) steps)
+all_close gate (Drains ∷ steps) =
+    all_of (IsClose (gate_step gate Drains) steps) (IsClose gate (Drains ∷ steps)) (close_before gate Drains steps)
+    (aside_in (gate_step gate Drains) steps) (all_close (gate_step gate Drains) steps)
 all_close gate (Comes now address bytes ∷ steps) =
     all_append (IsClose gate (Comes now address bytes ∷ steps)) (listed (requested gate now address bytes)) (aside_in (gate_came gate now address bytes) steps)
     (from (requested gate now address bytes) refl)

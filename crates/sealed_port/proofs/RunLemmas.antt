@@ -13,7 +13,7 @@ use Rattle.replay_window.proofs.OnceLemmas.{IsCovered, covers_itself, fresh_is_a
 use Rattle.sealed_port.specs.Asked.{AskedRecord, clashes, is_of, line_at, nonce_of, place_of, remembered, without}
 use Rattle.sealed_wire.specs.Sealed.{sealed_bytes}
 use Rattle.sealed_port.specs.Gate.{GateRecord, Sealed, SealedLine, admits, answer_head, answer_to, answer_under, answered, answered_place, asked_of, gate_with, is_admitted, named, opened, with_moment}
-use Rattle.sealed_port.specs.Runs.{IsAmong, IsAnswerOf, Step, Comes, Answers, Takes, gate_run, gate_step, is_same, opened_by, opened_in, opening_of}
+use Rattle.sealed_port.specs.Runs.{IsAmong, IsAnswerOf, Step, Comes, Answers, Drains, Takes, gate_run, gate_step, is_same, opened_by, opened_in, opening_of}
 use Rattle.sealed_port.specs.Requests.{gate_aside, gate_came, requested}
 use Rattle.sealed_port.specs.declared.client.Client.{Client}
 use Rattle.sealed_port.proofs.OpenLemmas.{opened_law}
@@ -85,6 +85,7 @@ stays_seen_step : (gate : GateRecord) (step : Step) (n m : ℕ) → IsSeen gate 
 stays_seen_step gate (Comes now address bytes) n m h = stays_seen gate now address (opened gate now bytes) n m h
 stays_seen_step gate (Answers client answer) n m h = h
 stays_seen_step gate Takes n m h = h
+stays_seen_step gate Drains n m h = h
 
 pub is_itself : (n k : ℕ) → n ≡ k → eqb n k ≡ true
 is_itself n k e = elim (bool_cases (eqb n k)) [
@@ -143,6 +144,7 @@ pub never_again_in : (gate : GateRecord) (steps : List Step) (one : AskedRecord)
 never_again_in gate [] one seen = tt
 never_again_in gate (Answers client answer ∷ steps) one seen = never_again_in (gate_step gate (Answers client answer)) steps one seen
 never_again_in gate (Takes ∷ steps) one seen = never_again_in (gate_step gate Takes) steps one seen
+never_again_in gate (Drains ∷ steps) one seen = never_again_in (gate_step gate Drains) steps one seen
 never_again_in gate (Comes now address bytes ∷ steps) one seen =
     all_append (λ y. is_same one y ≡ false) (opening_of address (opened gate now bytes)) (opened_in (gate_step gate (Comes now address bytes)) steps)
     (from (opened gate now bytes) refl)
@@ -157,6 +159,7 @@ unfolding IsDistinct
 once_law gate [] = tt
 once_law gate (Answers client answer ∷ steps) = once_law (gate_step gate (Answers client answer)) steps
 once_law gate (Takes ∷ steps) = once_law (gate_step gate Takes) steps
+once_law gate (Drains ∷ steps) = once_law (gate_step gate Drains) steps
 once_law gate (Comes now address bytes ∷ steps) = from (opened gate now bytes) (once_law (gate_came gate now address bytes) steps)
   where
     from : (o : Option SealedLine) → IsDistinct is_same (opened_in (gate_aside (gate_with gate now address o) (requested gate now address bytes)) steps)
@@ -231,6 +234,7 @@ among_step : (gate : GateRecord) (step : Step) (before : List AskedRecord) → A
 among_step gate (Answers client answer) before h = λ a is.
     subst (λ (l : List AskedRecord). IsAmong l a) (sym (append-nil before)) (h a (among_without (answered_place gate client answer) gate.asked a is))
 among_step gate Takes before h = λ a is. subst (λ (l : List AskedRecord). IsAmong l a) (sym (append-nil before)) (h a is)
+among_step gate Drains before h = λ a is. subst (λ (l : List AskedRecord). IsAmong l a) (sym (append-nil before)) (h a is)
 among_step gate (Comes now address bytes) before h = from (opened gate now bytes)
   where
     from : (o : Option SealedLine) → AreAmong (gate_with gate now address o).asked (before ++ opening_of address o)

@@ -14,8 +14,9 @@ use Rattle.sealed_wire.specs.Body.{head_at}
 use Rattle.sealed_port.specs.Failures.{FailuresRecord, is_failure}
 use Rattle.sealed_port.specs.Gate.{GateRecord, SealedLine, failures_told, gate_answered, gate_with, with_moment}
 use Rattle.sealed_port.specs.Aside.{AsideRecord}
+use Rattle.sealed_port.specs.Draining.{busy_answer, gate_busied}
 use Rattle.sealed_port.specs.Requests.{gate_aside, operator_with, operators_with}
-use Rattle.sealed_port.specs.Port.{Opens, PassesOver, Receives, event_of_passed, gate_offered, handed_in}
+use Rattle.sealed_port.specs.Port.{Opens, PassesOver, Receives, event_of_passed, gate_offered, handed_in, own_offers}
 use Rattle.sealed_port.specs.Setup.{AreHeard, IsHandedFor, IsHeard, gate_setup, keyed_of, sealed_setup}
 use Rattle.sealed_port.specs.declared.client.Client.{Client}
 use Rattle.sealed_port.specs.declared.operator.Operator.{Operator}
@@ -89,6 +90,11 @@ pub answer_stays : (gate : GateRecord) (client : ℕ) (answer : List ℕ) → ga
 answer_stays gate client answer =
     ap (setup_with gate.node (map keyed_of gate.clients) (holders gate.operators) gate.plain) (either (λ (f : FailuresRecord). f.most) (is_failure answer) _ gate.failures gate.failures.most refl refl)
 
+-- so does the gate's own answer
+pub busied_stays : (gate : GateRecord) (line : Option SealedLine) → gate_setup (gate_busied gate line) ≡ gate_setup gate
+busied_stays gate None = refl
+busied_stays gate (Some line) = answer_stays gate line.client (busy_answer line.line)
+
 -- an offer leaves the setup
 pub offer_stays : (gate : GateRecord) (to : Sender) (bytes : List ℕ) → gate_setup (gate_offered gate to bytes) ≡ gate_setup gate
 offer_stays gate (Peer number) bytes = refl
@@ -130,25 +136,25 @@ one_heard : (setup : GateSetup) (below : Option (List PortEvent)) (events : List
 one_heard setup None events event h k = tt
 one_heard setup (Some below) events event h k = all_and_one (IsHeard setup below) events event h k
 
--- the last event of the port below is what the gate handed in
-last_heard : (setup : GateSetup) (old new : Option (List PortEvent)) (passed : List PortEvent) (gate : GateRecord) (now : Option ℕ) (received event : PortEvent)
-    → Grows old new (passed ++ received ∷ []) → gate_setup gate ≡ setup → handed_in gate now received ≡ Some event → IfSome new (λ kept. IsHeard setup kept event)
-last_heard setup old None passed gate now received event grows is handed = tt
-last_heard setup None (Some below) passed gate now received event grows is handed = absurd cc
-last_heard setup (Some before) (Some below) passed gate now received (Received sender bytes) grows is handed = record {
+-- the gate handed in the last event that the port below received
+last_heard : (setup : GateSetup) (old new : Option (List PortEvent)) (passed offers : List PortEvent) (gate : GateRecord) (now : Option ℕ) (received event : PortEvent)
+    → Grows old new (passed ++ received ∷ offers) → gate_setup gate ≡ setup → handed_in gate now received ≡ Some event → IfSome new (λ kept. IsHeard setup kept event)
+last_heard setup old None passed offers gate now received event grows is handed = tt
+last_heard setup None (Some below) passed offers gate now received event grows is handed = absurd cc
+last_heard setup (Some before) (Some below) passed offers gate now received (Received sender bytes) grows is handed = record {
   before = before ++ passed;
   received = received;
-  after = [];
+  after = offers;
   is_received =
-      sym (same_Some (before ++ (passed ++ received ∷ [])) below grows) ∙ sym (append_assoc before passed (received ∷ []));
+      sym (same_Some (before ++ (passed ++ received ∷ offers)) below grows) ∙ sym (append_assoc before passed (received ∷ offers));
   gate = gate;
   of_setup = is;
   now = now;
   handed = handed;
 }
-last_heard setup (Some before) (Some below) passed gate now received Quiet grows is handed = tt
-last_heard setup (Some before) (Some below) passed gate now received Faulted grows is handed = tt
-last_heard setup (Some before) (Some below) passed gate now received (Offered to bytes) grows is handed = tt
+last_heard setup (Some before) (Some below) passed offers gate now received Quiet grows is handed = tt
+last_heard setup (Some before) (Some below) passed offers gate now received Faulted grows is handed = tt
+last_heard setup (Some before) (Some below) passed offers gate now received (Offered to bytes) grows is handed = tt
 
 quiet_heard : (setup : GateSetup) (below : Option (List PortEvent)) → IfSome below (λ kept. IsHeard setup kept Quiet)
 quiet_heard setup None = tt
@@ -180,7 +186,7 @@ module _ {old_port new_port : Option (List PortEvent)} {old_clock new_clock : Op
     opens_heard o =
         subst (λ (setup : GateSetup). IfSome new_port (λ below. AreHeard setup below (events ++ handed ∷ []))) (sym stays)
         (one_heard (gate_setup old) new_port events handed (heard_more (gate_setup old) old_port new_port _ events o.port h)
-        (last_heard (gate_setup old) old_port new_port (map event_of_passed o.passed) old o.now o.received handed o.port refl o.handed_is))
+        (last_heard (gate_setup old) old_port new_port (map event_of_passed o.passed) (own_offers old o.now o.received) old o.now o.received handed o.port refl o.handed_is))
 
     -- a receive over the gate
     receives_heard : Receives old_port new_port old_clock new_clock old new before after handed

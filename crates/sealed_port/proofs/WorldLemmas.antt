@@ -14,7 +14,7 @@ use Rattle.sealed_wire.proofs.MakingLemmas.{answer_law, made_law}
 use Rattle.replay_window.specs.Window.{with_seen}
 use Rattle.sealed_port.specs.Asked.{AskedRecord, nonce_in}
 use Rattle.sealed_port.specs.Gate.{GateRecord, Sealed, SealedLine, answer_head, answered, asked_of, gate_with, named, opened, with_moment}
-use Rattle.sealed_port.specs.Runs.{Answers, Comes, Takes, IsAmong, Step, gate_run, gate_step, line_head, opened_in, opening_of}
+use Rattle.sealed_port.specs.Runs.{Answers, Comes, Drains, Takes, IsAmong, Step, gate_run, gate_step, line_head, opened_in, opening_of}
 use Rattle.sealed_port.specs.World.{ComeUnforged, GatesAnswer, HasKey, IsAnswered, WasSealed}
 use Rattle.sealed_port.specs.Requests.{gate_came}
 use Rattle.sealed_port.specs.declared.client.Client.{Client}
@@ -46,6 +46,7 @@ key_step : (key : List ℕ) (client : ℕ) (gate : GateRecord) (step : Step) →
 key_step key client gate (Comes now address bytes) h = key_with key client gate now address (opened gate now bytes) h
 key_step key client gate (Answers other answer) h = h
 key_step key client gate Takes h = h
+key_step key client gate Drains h = h
 
 key_run : (key : List ℕ) (client : ℕ) (gate : GateRecord) (steps : List Step) → HasKey key client gate → HasKey key client (gate_run gate steps)
 key_run key client gate [] h = h
@@ -61,6 +62,7 @@ node_run : (gate : GateRecord) (steps : List Step) → (gate_run gate steps).nod
 node_run gate [] = refl
 node_run gate (Comes now address bytes ∷ steps) = node_run (gate_came gate now address bytes) steps ∙ node_with gate now address (opened gate now bytes)
 node_run gate (Takes ∷ steps) = node_run (gate_step gate Takes) steps
+node_run gate (Drains ∷ steps) = node_run (gate_step gate Drains) steps
 node_run gate (Answers client answer ∷ steps) = node_run (gate_step gate (Answers client answer)) steps
 
 -- ---- a line that was opened was made
@@ -110,6 +112,8 @@ opened_is_made key made client gate (Answers other answer ∷ steps) line making
     opened_is_made key made client (gate_step gate (Answers other answer)) steps line makings has come among of_client
 opened_is_made key made client gate (Takes ∷ steps) line makings has come among of_client =
     opened_is_made key made client (gate_step gate Takes) steps line makings has come among of_client
+opened_is_made key made client gate (Drains ∷ steps) line makings has come among of_client =
+    opened_is_made key made client (gate_step gate Drains) steps line makings has come among of_client
 opened_is_made key made client gate (Comes now address bytes ∷ steps) line makings has come among of_client =
     from (opened gate now bytes) refl (λ later. opened_is_made key made client (gate_came gate now address bytes) steps line makings
     (key_with key client gate now address (opened gate now bytes) has) come.2 later of_client)

@@ -1,5 +1,5 @@
 -- The opened lines without an answer that a gate remembers.
-use Rattle.std.specs.Prelude.{ℕ, ◌==◌, ◌&&◌, not, nat_lt, Bool, if◌then◌else◌, List, [], ◌∷◌, ◌++◌, length, drop, position, Option, Some, None, slice_get, codes}
+use Rattle.std.specs.Prelude.{ℕ, ◌==◌, ◌&&◌, not, nat_lt, Bool, if◌then◌else◌, List, [], ◌∷◌, ◌++◌, length, drop, position, Option, Some, None, is_some, slice_get, codes}
 use Rattle.std.specs.List.{list_any, remove, slice_split}
 use Rattle.std.specs.Str.{bytes_eq}
 use Rattle.client_lines.specs.Request.{Request, request_at}
@@ -58,6 +58,10 @@ line_at (Some place) asked = slice_get asked place
 -- the place of the oldest line of a client with a nonce, or None
 abbrev pub place_of : ℕ → List ℕ → List AskedRecord → Option ℕ
 place_of client nonce asked = position (is_of client nonce) asked
+
+-- whether a line of a client with the nonce of a line waits for its answer
+abbrev pub waits : ℕ → List ℕ → List AskedRecord → Bool
+waits client line asked = is_some (place_of client (nonce_in line) asked)
 
 -- the lines with one more, which replaces a line of its client with its nonce
 abbrev pub remembered : List AskedRecord → AskedRecord → List AskedRecord

@@ -1,5 +1,5 @@
 -- Worked cases: a gate before node 2, with client 258 under a key of 32 zeros.
-use Rattle.std.specs.Prelude.{ℕ, List, [], ◌∷◌, Some, None, codes, replicate}
+use Rattle.std.specs.Prelude.{ℕ, false, List, [], ◌∷◌, Some, None, codes, replicate}
 use Rattle.sealed_wire.specs.Examples.{answer_head, line_head, line_tag}
 use Rattle.sealed_wire.specs.Making.{Making}
 use Rattle.replay_window.specs.Window.{WindowRecord}
@@ -58,6 +58,7 @@ gate_at window asked = record {
   failures = no_limit;
   operators = [];
   aside = [];
+  drains = false;
 }
 
 -- the gate before it opened anything

@@ -18,8 +18,8 @@ use Rattle.sealed_port.specs.declared.client.Client.{Client}
 use Rattle.sealed_port.specs.declared.operator.Operator.{Operator}
 
 -- A gate: its node, the clients that share a key with it, the plain IPv4 addresses, the lines without an answer, the
--- failures of clients, the operators, and their requests that were not taken. Clients at a plain address may speak
--- plainly.
+-- failures of clients, the operators, their requests that were not taken, and whether it drains. Clients at a plain
+-- address may speak plainly.
 pub record GateRecord : Type 0 where
   pub node : ℕ
   pub clients : List Client
@@ -28,6 +28,7 @@ pub record GateRecord : Type 0 where
   pub failures : FailuresRecord
   pub operators : List Operator
   pub aside : List AsideRecord
+  pub drains : Bool
 
 -- a client's line with the values of its seal
 pub record SealedLine : Type 0 where

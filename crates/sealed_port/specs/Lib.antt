@@ -1,6 +1,8 @@
 pub mod Aside
 pub mod Asked
 pub mod Causes
+pub mod DrainExamples
+pub mod Draining
 pub mod Examples
 pub mod Failures
 pub mod Gate

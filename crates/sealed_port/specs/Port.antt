@@ -8,28 +8,34 @@ use Rattle.datagram_port.specs.declared.port.Sender.{Sender}
 use Rattle.datagram_port.specs.declared.port.Sender.TheVariants.{Client, Peer}
 use Rattle.sealed_port.specs.Aside.{AsideRecord}
 use Rattle.sealed_port.specs.Causes.{counted}
-use Rattle.sealed_port.specs.Gate.{GateRecord, Sealed, SealedLine, answered, gate_answered, is_plain, opened}
-use Rattle.sealed_port.specs.Requests.{asks, cause_came, gate_came, requested}
+use Rattle.sealed_port.specs.Draining.{busied, gate_busied, gate_handled, own_answer, turned_away, turns_away}
+use Rattle.sealed_port.specs.Gate.{GateRecord, Sealed, SealedLine, answered, gate_answered, gate_with, is_plain, opened}
+use Rattle.sealed_port.specs.Requests.{asks, cause_came, requested}
 use Rattle.sealed_port.specs.declared.cause.Unopened.{Unopened}
 
 -- the number of a client at the node
 abbrev pub node_number : ℕ → ℕ
 node_number client = 2 ^ 48 + client
 
--- the event for an opened line, or None if nothing was opened
-abbrev pub handed_line : Option SealedLine → Option PortEvent
-handed_line None = None
-handed_line (Some line) = Some (Received (Client (node_number line.client)) line.line)
+-- the event in place of a line or a request that a gate keeps: an empty datagram of member 0, which no cluster has
+abbrev pub nothing_handed : PortEvent
+nothing_handed = Received (Peer 0) []
 
--- the event in place of a request that was set aside, or None: an empty datagram of member 0, which no cluster has
+-- the event for an opened line, or None if nothing was opened; a gate that drains keeps a line that it turns away
+abbrev pub handed_line : GateRecord → Option SealedLine → Option PortEvent
+handed_line gate None = None
+handed_line gate (Some line) =
+    Some (if turns_away gate line then nothing_handed else Received (Client (node_number line.client)) line.line)
+
+-- the event in place of a request that was set aside, or None
 abbrev pub handed_request : Option AsideRecord → Option PortEvent
 handed_request None = None
-handed_request (Some request) = Some (Received (Peer 0) [])
+handed_request (Some request) = Some nothing_handed
 
 -- the event for a datagram of a client or an operator
 abbrev pub handed_sealed : GateRecord → Option ℕ → ℕ → List ℕ → Option PortEvent
 handed_sealed gate now address bytes =
-    if asks bytes then handed_request (requested gate now address bytes) else handed_line (opened gate now bytes)
+    if asks bytes then handed_request (requested gate now address bytes) else handed_line gate (opened gate now bytes)
 
 -- the result of a receive in place of a request that was set aside, or None
 abbrev pub stand_in : Option AsideRecord → Option Receive
@@ -53,7 +59,7 @@ handed_in gate now (Offered to bytes) = Some (Offered to bytes)
 -- the gate after an event of the port below
 abbrev pub gate_after : GateRecord → Option ℕ → PortEvent → GateRecord
 gate_after gate now (Received (Client address) bytes) =
-    if is_plain gate address then gate else gate_came gate now address bytes
+    if is_plain gate address then gate else gate_handled gate now address bytes
 gate_after gate now (Received (Peer number) bytes) = gate
 gate_after gate now Quiet = gate
 gate_after gate now Faulted = gate
@@ -80,6 +86,15 @@ counted_after gate unopened now (Offered to bytes) = unopened
 abbrev pub offer_of : Option Sealed → List PortEvent
 offer_of None = []
 offer_of (Some sealed) = Offered (Client sealed.address) sealed.bytes ∷ []
+
+-- a gate's own offers for an event of the port below: its answer to a line that it turns away
+abbrev pub own_offers : GateRecord → Option ℕ → PortEvent → List PortEvent
+own_offers gate now (Received (Client address) bytes) =
+    if is_plain gate address then [] else offer_of (own_answer gate now address bytes)
+own_offers gate now (Received (Peer number) bytes) = []
+own_offers gate now Quiet = []
+own_offers gate now Faulted = []
+own_offers gate now (Offered to bytes) = []
 
 -- The offers for an offer of the node. An answer to a client that speaks plainly passes unchanged.
 abbrev pub offered : GateRecord → Sender → List ℕ → List PortEvent
@@ -126,11 +141,35 @@ counted_over gate unopened [] = unopened
 counted_over gate unopened (one ∷ passed) =
     counted_over gate (counted unopened (cause_came gate one.now one.address one.bytes)) passed
 
--- A gate's handling of one event of the port below. It asks the clock as `told_for` says, hands in what `handed_in`
--- says, and is then the gate of `gate_after`. It counts a datagram that it passes over.
-pub record TakesIn (old_clock new_clock : Option (List (Option ℕ))) (old new : GateRecord) (before after : Unopened)
-    (received : PortEvent) (handed : Option PortEvent) : Type 0 where
+-- A gate's handling of a line that it opened. It hands in what `handed_line` says. It offers its own answer if it turns
+-- the line away.
+pub record TakesLine (old new : GateRecord) (now : Option ℕ) (address : ℕ) (line : SealedLine)
+    (old_port new_port : Option (List PortEvent)) (handed : PortEvent) : Type 0 where
+  pub handed_is : Some handed ≡ handed_line old (Some line)
+  pub port : Grows old_port new_port
+      (offer_of (busied (gate_with old now address (Some line)) (turned_away old (Some line))))
+  pub gate_is : new ≡ gate_busied (gate_with old now address (Some line)) (turned_away old (Some line))
+
+-- A gate's handling of a datagram from an address whose clients must not speak plainly. It asks the clock, hands in
+-- what `handed_sealed` says, offers its own answer, and counts a datagram that it doesn't open.
+pub record Handles (old_port new_port : Option (List PortEvent)) (old_clock new_clock : Option (List (Option ℕ)))
+    (old new : GateRecord) (before after : Unopened) (address : ℕ) (bytes : List ℕ) (handed : Option PortEvent)
+    : Type 0 where
   pub now : Option ℕ
+  pub clock : Grows old_clock new_clock (now ∷ [])
+  pub port : Grows old_port new_port (offer_of (own_answer old now address bytes))
+  pub handed_is : handed ≡ handed_sealed old now address bytes
+  pub gate_is : new ≡ gate_handled old now address bytes
+  pub counts : after ≡ counted before (cause_came old now address bytes)
+
+-- A gate's handling of one event of the port below. It asks the clock as `told_for` says, and offers what `own_offers`
+-- says. It hands in what `handed_in` says, and is then the gate of `gate_after`. It counts a datagram that it passes
+-- over.
+pub record TakesIn (old_port new_port : Option (List PortEvent)) (old_clock new_clock : Option (List (Option ℕ)))
+    (old new : GateRecord) (before after : Unopened) (received : PortEvent) (handed : Option PortEvent)
+    : Type 0 where
+  pub now : Option ℕ
+  pub port : Grows old_port new_port (own_offers old now received)
   pub clock : Grows old_clock new_clock (told_for old now received)
   pub handed_is : handed ≡ handed_in old now received
   pub gate_is : new ≡ gate_after old now received
@@ -149,14 +188,14 @@ pub record PassesOver (old_port new_port : Option (List PortEvent)) (old_clock n
   pub counts : after ≡ counted_over old before passed
 
 -- A receive or a poll over a gate. The port below received the datagrams that the gate passed over, and then one event
--- that the gate handed in.
+-- that the gate handed in. The gate's own answer to that one follows, if it is a line that it turns away.
 pub record Opens (old_port new_port : Option (List PortEvent)) (old_clock new_clock : Option (List (Option ℕ)))
     (old new : GateRecord) (before after : Unopened) (handed : PortEvent) : Type 0 where
   pub passed : List Passed
   pub are_passed_over : ArePassedOver old passed
   pub received : PortEvent
   pub now : Option ℕ
-  pub port : Grows old_port new_port (map event_of_passed passed ++ received ∷ [])
+  pub port : Grows old_port new_port (map event_of_passed passed ++ received ∷ own_offers old now received)
   pub clock : Grows old_clock new_clock (map (λ one. one.now) passed ++ told_for old now received)
   pub handed_is : handed_in old now received ≡ Some handed
   pub gate_is : new ≡ gate_after old now received

@@ -6,7 +6,7 @@ use Rattle.sealed_wire.specs.Sealed.{sealed_at, tag_at}
 use Rattle.sealed_port.specs.Aside.{AsideRecord, has_room, oldest}
 use Rattle.sealed_port.specs.Gate.{GateRecord}
 use Rattle.sealed_port.specs.Requests.{operator_named, request_head, requested}
-use Rattle.sealed_port.specs.Runs.{GateLife, Step, Comes, Answers, Takes, WasTold, gate_step}
+use Rattle.sealed_port.specs.Runs.{GateLife, Step, Comes, Answers, Drains, Takes, WasTold, gate_step}
 use Rattle.sealed_port.specs.declared.operator.Operator.{Operator}
 
 -- the request alone, or nothing
@@ -19,6 +19,7 @@ abbrev pub aside_by : GateRecord → Step → List AsideRecord
 aside_by gate (Comes now address bytes) = listed (requested gate now address bytes)
 aside_by gate (Answers client answer) = []
 aside_by gate Takes = []
+aside_by gate Drains = []
 
 -- the requests that the steps set aside, in order
 abbrev pub aside_in : GateRecord → List Step → List AsideRecord
@@ -30,6 +31,7 @@ abbrev pub taken_by : GateRecord → Step → List AsideRecord
 taken_by gate (Comes now address bytes) = []
 taken_by gate (Answers client answer) = []
 taken_by gate Takes = listed (oldest gate.aside)
+taken_by gate Drains = []
 
 -- the requests that are taken at the steps, in order
 abbrev pub taken_in : GateRecord → List Step → List AsideRecord

@@ -6,23 +6,26 @@ use Rattle.sealed_wire.specs.Sealed.{sealed_at, sealed_bytes, tag_at}
 use Rattle.sealed_wire.specs.declared.head.Head.{Head}
 use Rattle.sealed_wire.specs.declared.head.Kind.TheVariants.{Line}
 use Rattle.sealed_port.specs.Asked.{AskedRecord, nonce_of}
+use Rattle.sealed_port.specs.Draining.{busy_answer, gate_drained, turned_away}
 use Rattle.sealed_port.specs.Failures.{is_limited}
 use Rattle.sealed_port.specs.Gate.{GateRecord, Sealed, SealedLine, answer_head, asked_of, gate_answered, is_admitted, named, opened}
 use Rattle.sealed_port.specs.Requests.{gate_came, gate_taken}
 use Rattle.sealed_port.specs.declared.client.Client.{Client}
 
--- A step of a gate: a datagram comes from an address at a second of the clock, the node answers a client, or the oldest
--- request is taken.
+-- A step of a gate: a datagram comes from an address at a second of the clock, the node or the gate itself answers a
+-- client, the oldest request is taken, or the gate drains from now on.
 pub data Step : Type 0 where
   Comes : (now : Option ℕ) (address : ℕ) (bytes : List ℕ) → Step
   Answers : (client : ℕ) (answer : List ℕ) → Step
   Takes : Step
+  Drains : Step
 
 -- the gate after a step
 abbrev pub gate_step : GateRecord → Step → GateRecord
 gate_step gate (Comes now address bytes) = gate_came gate now address bytes
 gate_step gate (Answers client answer) = gate_answered gate client answer
 gate_step gate Takes = gate_taken gate
+gate_step gate Drains = gate_drained gate
 
 -- the gate after the steps, in order
 abbrev pub gate_run : GateRecord → List Step → GateRecord
@@ -39,11 +42,21 @@ abbrev pub opened_by : GateRecord → Step → List AskedRecord
 opened_by gate (Comes now address bytes) = opening_of address (opened gate now bytes)
 opened_by gate (Answers client answer) = []
 opened_by gate Takes = []
+opened_by gate Drains = []
 
 -- the lines that the steps open, in order
 abbrev pub opened_in : GateRecord → List Step → List AskedRecord
 opened_in gate [] = []
 opened_in gate (step ∷ steps) = opened_by gate step ++ opened_in (gate_step gate step) steps
+
+-- the step by which a gate answers a line that it turned away, if there is one
+abbrev pub own_steps : Option SealedLine → List Step
+own_steps None = []
+own_steps (Some line) = Answers line.client (busy_answer line.line) ∷ []
+
+-- the steps of a gate for a datagram from an address, with what the clock told
+abbrev pub steps_for : GateRecord → Option ℕ → ℕ → List ℕ → List Step
+steps_for gate now address bytes = Comes now address bytes ∷ own_steps (turned_away gate (opened gate now bytes))
 
 -- an incarnation of a gate's process: the gate at its start, and the steps
 pub record GateLife : Type 0 where
@@ -61,6 +74,7 @@ WasTold second [] = ⊥
 WasTold second (Comes now address bytes ∷ steps) = (now ≡ Some second) ⊎ WasTold second steps
 WasTold second (Answers client answer ∷ steps) = WasTold second steps
 WasTold second (Takes ∷ steps) = WasTold second steps
+WasTold second (Drains ∷ steps) = WasTold second steps
 
 -- An incarnation of a gate is before a later one. For each client of both, the later window's first mark is at or above
 -- every moment that the earlier window could admit.

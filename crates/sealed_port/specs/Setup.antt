@@ -13,7 +13,7 @@ abbrev pub keyed_of : Client → Keyed
 keyed_of client = record { number = client.number; key = client.key; ahead = client.window.ahead }
 
 -- what stays of a gate: all but the admitted moments, the lines without an answer, the failures so far, the rights of
--- operators and their requests
+-- operators and their requests, and whether it drains
 abbrev pub gate_setup : GateRecord → GateSetup
 gate_setup gate = record {
   node = gate.node;

@@ -6,7 +6,7 @@ use Rattle.sealed_wire.specs.declared.head.Head.{Head}
 use Rattle.sealed_wire.specs.declared.head.Kind.TheVariants.{Answer}
 use Rattle.sealed_port.specs.Asked.{AskedRecord, line_at, nonce_in, nonce_of}
 use Rattle.sealed_port.specs.Gate.{GateRecord, Sealed, answer_head, answered, answered_place, named}
-use Rattle.sealed_port.specs.Runs.{IsAmong, Step, Comes, Answers, Takes, gate_run, opened_in}
+use Rattle.sealed_port.specs.Runs.{IsAmong, Step, Comes, Answers, Drains, Takes, gate_run, opened_in}
 use Rattle.sealed_port.specs.declared.client.Client.{Client}
 
 -- the remembered line that an answer of the node answers
@@ -24,6 +24,7 @@ ComeUnforged key made (Comes now address bytes ∷ steps) =
     AreBytes bytes × IsUnforged key made [] bytes × ComeUnforged key made steps
 ComeUnforged key made (Answers client answer ∷ steps) = ComeUnforged key made steps
 ComeUnforged key made (Takes ∷ steps) = ComeUnforged key made steps
+ComeUnforged key made (Drains ∷ steps) = ComeUnforged key made steps
 
 -- the making of a gate's sealed answer to a line
 abbrev pub sealing : ℕ → AskedRecord → List ℕ → Making

@@ -3,7 +3,7 @@
 ghost use Rattle.std.specs.Prelude.{◌≡◌, ◌<◌, ◌≤◌, ◌∷◌, [], ◌++◌, ◌==◌, ◌&&◌, drop, length, position, nat_lt, if◌then◌else◌, IfSome, option_map};
 ghost use Rattle.std.specs.List.{list_any};
 ghost use Rattle.std.specs.Str.{bytes_eq};
-ghost use Rattle.sealed_port.specs.Asked.{clashes, is_another, is_of, line_at, nonce_in, nonce_of, place_of, remembered, with_one, without};
+ghost use Rattle.sealed_port.specs.Asked.{clashes, is_another, is_of, line_at, nonce_in, nonce_of, place_of, remembered, waits, with_one, without};
 
 use arrayvec::ArrayVec;
 use client_lines::read_line;
@@ -156,6 +156,14 @@ impl AskedLines {
         self.lines
             .iter()
             .position(|asked| asked.is_of(client, nonce))
+    }
+
+    /// Returns whether a line of `client` with the nonce of `line` waits for its answer.
+    pub fn waits(&self, client: u16, line: &[u8]) -> bool
+        ensures { result ≡ waits client line.now self.now }
+    {
+        let nonce = nonce_in(line);
+        self.place_of(client, &nonce).is_some()
     }
 
     /// Removes and returns the oldest line of a client with a nonce, or returns None.

@@ -1,11 +1,11 @@
 //! A gate, which opens datagrams and seals answers.
 
 ghost use Rattle.std.specs.Option.{option_map};
-ghost use Rattle.std.specs.Prelude.{◌≡◌, ◌≤◌, ◌==◌, ◌/◌, [], length, map, find, nat_le, if◌then◌else◌, IfOk, IfSome, Some, None};
+ghost use Rattle.std.specs.Prelude.{◌≡◌, ◌≤◌, ◌==◌, ◌/◌, [], length, map, find, false, nat_le, if◌then◌else◌, IfOk, IfSome, Some, None};
 ghost use Rattle.std.specs.List.{list_any};
-ghost use Rattle.std.specs.Result.{result_err, result_map_both, result_ok};
+ghost use Rattle.std.specs.Result.{result_map_both};
 ghost use Rattle.sealed_wire.specs.Sealed.{head_of, tag_at};
-ghost use Rattle.sealed_port.specs.Gate.{admits, answer_to, answered, cause_at, cause_of, gate_answered, gate_with, is_admitted, is_line, is_plain, keeper_of, named, opened, ruling, sealed_line, with_moment};
+ghost use Rattle.sealed_port.specs.Gate.{answer_to, answered, cause_at, gate_answered, gate_with, is_admitted, is_line, is_plain, keeper_of, named, ruling, sealed_line, with_moment};
 
 use crate::aside::Aside;
 use crate::asked::{Asked, AskedLines};
@@ -47,9 +47,10 @@ pub struct Gate {
     clients: Vec<Client>,
     pub(crate) operators: Vec<Operator>,
     plain: Vec<u32>,
-    asked: AskedLines,
+    pub(crate) asked: AskedLines,
     failures: Failures,
     pub(crate) aside: Aside,
+    pub(crate) drains: bool,
 }
 
 impl Model for Gate {
@@ -65,6 +66,7 @@ impl Model for Gate {
       failures = gate.failures;
       operators = gate.operators.items;
       aside = gate.aside;
+      drains = gate.drains;
     } };
 }
 
@@ -122,6 +124,7 @@ impl Gate {
           failures = failures;
           operators = operators.items;
           aside = [];
+          drains = false;
         } }
     {
         Gate {
@@ -132,6 +135,7 @@ impl Gate {
             asked: AskedLines::new(),
             failures,
             aside: Aside::new(),
+            drains: false,
         }
     }
 
@@ -215,23 +219,16 @@ impl Gate {
         }
     }
 
-    /// Opens a datagram from an address at the second `now` of the clock, which is None if the clock fails. Returns its
-    /// line.
+    /// Returns the line in a datagram, if the gate opens it at the second `now` of the clock, which is None if the
+    /// clock fails.
     ///
     /// # Errors
     ///
-    /// Returns the cause if the gate doesn't open the datagram. The gate stays as it is.
-    pub fn open<'a>(
-        &mut self,
-        now: Option<u64>,
-        address: u64,
-        bytes: &'a [u8],
-    ) -> Result<SealedLine<'a>, Cause>
-        ensures opened { option_map
+    /// Returns the cause if the gate doesn't open the datagram.
+    pub fn ruling<'a>(&self, now: Option<u64>, bytes: &'a [u8]) -> Result<SealedLine<'a>, Cause>
+        ensures line { result_map_both
             (λ line. record { client = line.client; moment = line.moment; tag = line.tag; line = line.line.now })
-            (result_ok result) ≡ opened self.old now bytes.now }
-        ensures cause { result_err result ≡ cause_of self.old now bytes.now }
-        ensures gate { self.new ≡ gate_with self.old now address (opened self.old now bytes.now) }
+            (λ cause. cause) result ≡ ruling self.now now bytes.now }
         ensures len { IfOk result (λ line. length line.line.now ≤ 256) }
     {
         let line = self.sealed_line(bytes)?;
@@ -244,10 +241,25 @@ impl Gate {
         if !self.is_admitted(now, &line) {
             return Err(self.cause_at(now, &line));
         }
-        self.failures.begin(now);
+        Ok(line)
+    }
+
+    /// Notes that the gate opened a line from an address: its client's window sees the moment, and it waits for an
+    /// answer.
+    pub fn admit(&mut self, now: Option<u64>, address: u64, line: &SealedLine<'_>)
+        requires { length line.now.line.now ≤ 256 }
+        ensures { self.new ≡ gate_with self.old now address (Some (record {
+          client = line.now.client;
+          moment = line.now.moment;
+          tag = line.now.tag;
+          line = line.now.line.now;
+        })) }
+    {
+        if let Some(now) = now {
+            self.failures.begin(now);
+        }
         see(&mut self.clients, line.client, line.moment);
         self.asked.add(Asked::new(line.client, line.line, address, line.moment, line.tag));
-        Ok(line)
     }
 
     /// Seals an answer of the node to a client, forgets the client's line, and counts a failure.

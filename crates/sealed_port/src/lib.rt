@@ -9,12 +9,18 @@
 //! The port opens an operator's request by the same rules. The request waits in the port. In its place the port hands
 //! in an empty datagram of member 0, which no cluster has. [`SealedPort::take_request`] takes the request, and
 //! [`SealedPort::report`] sends the report on it.
+//!
+//! After [`SealedPort::drain`] the port answers `BUSY` to each new sealed line, and hands in the empty datagram in its
+//! place.
 #![tactic(auto)]
 
 mod aside;
 mod asked;
 mod cause;
 mod client;
+mod drain_laws;
+mod drain_worked;
+mod draining;
 mod failures;
 mod gate;
 mod laws;
@@ -32,6 +38,8 @@ pub use aside::{MAX_ASIDE, SetAside};
 pub use asked::{Asked, AskedLines, MAX_ASKED};
 pub use cause::{Cause, Unopened};
 pub use client::Client;
+pub use drain_laws::{draining_lasts, what_is_turned_away_is_answered};
+pub use drain_worked::{drained_events_are_worked, draining_is_worked, runs_that_drain_are_worked};
 pub use failures::{Failed, Failures};
 pub use gate::{Gate, MAX_CLIENTS, SealedLine};
 pub use laws::{

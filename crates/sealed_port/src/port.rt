@@ -3,13 +3,14 @@
 ghost use Rattle.std.specs.Option.{option_map};
 ghost use Rattle.std.specs.Prelude.{◌≡◌, ◌≤◌, ◌∷◌, [], ◌≢◌, ℕ, Option, Some, None, IfSome, length, take};
 ghost use Rattle.datagram_port.specs.Port.{Grows, IsWithin, Offered, Received as ReceivedEvent, entries_of_poll, event_of_receive};
-ghost use Rattle.datagram_port.specs.declared.port.Received.TheVariants.{Quiet};
-ghost use Rattle.datagram_port.specs.declared.port.Sender.TheVariants.{Client};
+ghost use Rattle.datagram_port.specs.declared.port.Received.TheVariants.{Datagram, Quiet};
+ghost use Rattle.datagram_port.specs.declared.port.Sender.TheVariants.{Client, Peer};
 ghost use Rattle.sealed_port.specs.Causes.{counted, nothing};
 ghost use Rattle.sealed_port.specs.Aside.{oldest};
-ghost use Rattle.sealed_port.specs.Requests.{cause_came, gate_aside, gate_came, gate_taken, reported, request_cause, requested};
+ghost use Rattle.sealed_port.specs.Draining.{busied, gate_busied, gate_drained};
+ghost use Rattle.sealed_port.specs.Requests.{gate_aside, gate_taken, reported, request_cause, requested};
 ghost use Rattle.sealed_port.specs.Setup.{AreHeard, gate_setup, sealed_setup};
-ghost use Rattle.sealed_port.specs.Port.{Polls, Receives, TakesIn, gate_offered, handed_sealed, node_number, offer_of, offered, sealed_from, stand_in};
+ghost use Rattle.sealed_port.specs.Port.{Handles, Polls, Receives, TakesIn, TakesLine, gate_offered, node_number, offer_of, offered, sealed_from, stand_in};
 
 use crate::aside::SetAside;
 use crate::cause::Unopened;
@@ -26,6 +27,12 @@ const MAX_PASSED_OVER: u64 = u64::MAX;
 
 /// The maximum number of datagrams that a poll passes over.
 const MAX_POLLED_OVER: u8 = 64;
+
+/// What the node is handed in place of a line or a request that the port keeps: an empty datagram of member 0.
+const STAND_IN: Received = Received::Datagram {
+    sender: Sender::Peer(0),
+    len: 0,
+};
 
 /// A node's port over another one, with a gate between them. It keeps a record of the events that it handed in and of
 /// the node's offers. Each datagram of the record was handed in by the gate. The requests of operators wait in it.
@@ -116,10 +123,7 @@ impl<P: Port + Drop, C: Clock + Drop> SealedPort<P, C> {
             × (self.new.calls ≡ self.old.calls) }
     {
         match self.gate.set_aside(now, address, bytes) {
-            None => Some(Received::Datagram {
-                sender: Sender::Peer(0),
-                len: 0,
-            }),
+            None => Some(STAND_IN),
             Some(why) => {
                 self.unopened.count(why);
                 None
@@ -157,29 +161,103 @@ impl<P: Port + Drop, C: Clock + Drop> SealedPort<P, C> {
         }
     }
 
+    /// Drains from now on: the port answers `BUSY` to each new sealed line, and hands in an empty datagram of member 0
+    /// in its place.
+    ///
+    /// A line that waits for its answer is no new one, so that its client gets the node's answer. A line that is not in
+    /// the grammar gets `BADLINE`. Lines of clients that speak plainly are handed in as before: the port remembers none
+    /// of them.
+    pub fn drain(&mut self)
+        ensures gate { self.new.gate ≡ gate_drained self.old.gate }
+        ensures same { (self.new.port ≡ self.old.port) × (self.new.clock ≡ self.old.clock)
+            × (self.new.unopened ≡ self.old.unopened) × (self.new.calls ≡ self.old.calls) }
+        ensures stays { gate_setup self.new.gate ≡ gate_setup self.old.gate }
+    {
+        self.gate.drain();
+    }
+
+    /// Answers a line that the gate turned away. Returns an empty datagram of member 0.
+    fn turn_away(&mut self, line: &SealedLine<'_>) -> Received
+        ensures handed { result ≡ Datagram (Peer 0) 0 }
+        ensures offers { Grows (P.events self.old.port) (P.events self.new.port)
+            (offer_of (busied self.old.gate (Some (record {
+              client = line.now.client;
+              moment = line.now.moment;
+              tag = line.now.tag;
+              line = line.now.line.now;
+            })))) }
+        ensures gate { self.new.gate ≡ gate_busied self.old.gate (Some (record {
+          client = line.now.client;
+          moment = line.now.moment;
+          tag = line.now.tag;
+          line = line.now.line.now;
+        })) }
+        ensures same { (self.new.clock ≡ self.old.clock) × (self.new.unopened ≡ self.old.unopened)
+            × (self.new.calls ≡ self.old.calls) }
+        ensures stays { P.setup self.new.port ≡ P.setup self.old.port }
+    {
+        match self.gate.busy(line) {
+            Some(sealed) => {
+                let to = Sender::Client(sealed.address);
+                let _taken = self.port.send(to, &sealed.bytes);
+                STAND_IN
+            }
+            None => STAND_IN,
+        }
+    }
+
+    /// Takes a line that the gate opened. Hands it in, or answers it if the gate turns it away.
+    fn take_line(
+        &mut self,
+        now: Option<u64>,
+        address: u64,
+        line: SealedLine<'_>,
+        buffer: &mut [u8; 512],
+    ) -> Received
+        requires { length line.line.now ≤ 256 }
+        ensures within { IsWithin result }
+        ensures datagram { result ≢ Quiet }
+        ensures takes { TakesLine self.old.gate self.new.gate now address (record {
+          client = line.entry.client;
+          moment = line.entry.moment;
+          tag = line.entry.tag;
+          line = line.entry.line.now;
+        }) (P.events self.old.port) (P.events self.new.port) (event_of_receive result buffer.new) }
+        ensures same { (self.new.clock ≡ self.old.clock) × (self.new.unopened ≡ self.old.unopened)
+            × (self.new.calls ≡ self.old.calls) }
+        ensures stays { (gate_setup self.new.gate ≡ gate_setup self.old.gate)
+            × (P.setup self.new.port ≡ P.setup self.old.port) }
+    {
+        let turns_away = self.gate.turns_away(&line);
+        self.gate.admit(now, address, &line);
+        if turns_away {
+            self.turn_away(&line)
+        } else {
+            hand_in(line, buffer)
+        }
+    }
+
     /// Opens a datagram from a client that must not speak plainly, or from an operator. Returns the result of the
     /// receive, or None if the gate doesn't open it.
-    #[tactic(auto, using(crate::proofs::SetupLemmas::line_stays, crate::proofs::SetupLemmas::aside_stays))]
+    #[tactic(auto, using(crate::proofs::SetupLemmas::aside_stays))]
     fn open(&mut self, address: u64, len: usize, buffer: &mut [u8; 512]) -> Option<Received>
         requires { len ≤ 512 }
         ensures within { IfSome result IsWithin }
         ensures datagram { result ≢ Some Quiet }
-        ensures same { (self.new.port ≡ self.old.port) × (self.new.calls ≡ self.old.calls) }
-        ensures takes { (now : Option ℕ) × Grows (C.moments self.old.clock) (C.moments self.new.clock) (now ∷ [])
-            × (option_map (λ received. event_of_receive received buffer.new) result
-            ≡ handed_sealed self.old.gate now address (take len buffer.old))
-            × (self.new.gate ≡ gate_came self.old.gate now address (take len buffer.old))
-            × (self.new.unopened
-            ≡ counted self.old.unopened (cause_came self.old.gate now address (take len buffer.old))) }
-        ensures stays { gate_setup self.new.gate ≡ gate_setup self.old.gate }
+        ensures calls { self.new.calls ≡ self.old.calls }
+        ensures takes { Handles (P.events self.old.port) (P.events self.new.port) (C.moments self.old.clock)
+            (C.moments self.new.clock) self.old.gate self.new.gate self.old.unopened self.new.unopened address
+            (take len buffer.old) (option_map (λ received. event_of_receive received buffer.new) result) }
+        ensures stays { (gate_setup self.new.gate ≡ gate_setup self.old.gate)
+            × (P.setup self.new.port ≡ P.setup self.old.port) }
     {
         let now = self.clock.moment();
         let datagram = *buffer;
         if asks(&datagram[..len]) {
             return self.set_aside(now, address, &datagram[..len]);
         }
-        match self.gate.open(now, address, &datagram[..len]) {
-            Ok(line) => Some(hand_in(line, buffer)),
+        match self.gate.ruling(now, &datagram[..len]) {
+            Ok(line) => Some(self.take_line(now, address, line, buffer)),
             Err(cause) => {
                 self.unopened.count(cause);
                 None
@@ -192,12 +270,13 @@ impl<P: Port + Drop, C: Clock + Drop> SealedPort<P, C> {
     fn take(&mut self, received: Received, buffer: &mut [u8; 512]) -> Option<Received>
         requires { IsWithin received }
         ensures within { IfSome result IsWithin }
-        ensures same { (self.new.port ≡ self.old.port) × (self.new.calls ≡ self.old.calls) }
+        ensures calls { self.new.calls ≡ self.old.calls }
         ensures quiet { result ≡ Some Quiet → received ≡ Quiet }
-        ensures takes { TakesIn (C.moments self.old.clock) (C.moments self.new.clock) self.old.gate self.new.gate
-            self.old.unopened self.new.unopened (event_of_receive received buffer.old)
-            (option_map (λ handed. event_of_receive handed buffer.new) result) }
-        ensures stays { gate_setup self.new.gate ≡ gate_setup self.old.gate }
+        ensures takes { TakesIn (P.events self.old.port) (P.events self.new.port) (C.moments self.old.clock)
+            (C.moments self.new.clock) self.old.gate self.new.gate self.old.unopened self.new.unopened
+            (event_of_receive received buffer.old) (option_map (λ handed. event_of_receive handed buffer.new) result) }
+        ensures stays { (gate_setup self.new.gate ≡ gate_setup self.old.gate)
+            × (P.setup self.new.port ≡ P.setup self.old.port) }
     {
         let Some((address, len)) = sealed_from(&self.gate, received) else {
             return Some(received);

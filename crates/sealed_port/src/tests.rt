@@ -352,3 +352,47 @@ fn keeps_eight_requests(rt: HostRuntime) -> Result<(), Fail> {
     assert!(rt; gate.set_aside(Some(100), 7, &ninth).is_none());
     Ok(())
 }
+
+/// The answer `NO k1 BUSY` to the line, by Python's hmac.
+const BUSY: [u8; 57] = [
+    0x4f, 0x53, 0x01, 0x02, 0x01, 0x02, 0x02, 0x00, 0x00, 0x00, 0x00, 0x05, 0xf5, 0xe1, 0x00, 0x4e,
+    0x4f, 0x20, 0x6b, 0x31, 0x20, 0x42, 0x55, 0x53, 0x59, 0xdc, 0x1a, 0xda, 0xea, 0x8c, 0xa1, 0x26,
+    0x08, 0xe0, 0x0f, 0x0b, 0x8a, 0x4a, 0x72, 0x53, 0x18, 0x21, 0xc2, 0x55, 0x38, 0xed, 0xa6, 0xe9,
+    0xa7, 0xb6, 0x06, 0x46, 0x09, 0x11, 0xa8, 0x77, 0x6f,
+];
+
+/// A port that drains answers a line once, and hands in a stand-in. A copy of the line is passed over.
+#[test]
+fn turns_a_line_away(rt: HostRuntime) -> Result<(), Fail> {
+    let comings = [from(7, &LINE), from(8, &LINE)];
+    let mut port = port(rt.alloc(), &comings, &[100, 100])?;
+    port.drain();
+    assert!(rt; port.receive(&mut [0; 512]) == STAND_IN);
+    assert!(rt; offers(&port.port, Sender::Client(7), &BUSY));
+    assert!(rt; port.poll(&mut [0; 512]).is_none());
+    assert!(rt; are(port.take_unopened(), [0, 0, 0, 0, 1, 0]));
+    Ok(())
+}
+
+/// A line that waits when the port begins to drain gets the node's answer, and it is handed in when it comes again.
+#[test]
+fn drains_what_waits(rt: HostRuntime) -> Result<(), Fail> {
+    let key = ClientKey::new(&[0; 32]).ok_or("a key")?;
+    let head = Head {
+        kind: Kind::Line,
+        client: 258,
+        node: 2,
+        moment: 99_000_000,
+    };
+    let first = seal(&key, &[], head, b"CHECK k1 ann 755224 -");
+    let comings = [from(7, &first), from(7, &LINE)];
+    let mut port = port(rt.alloc(), &comings, &[100, 100])?;
+    let mut buffer = [0; 512];
+    let _line = port.receive(&mut buffer);
+    port.drain();
+    let again = port.receive(&mut buffer);
+    assert!(rt; is_line(again, &buffer));
+    assert!(rt; port.send(Sender::Client((1 << 48) + 258), b"OK k1 0"));
+    assert!(rt; offers(&port.port, Sender::Client(7), &ANSWER));
+    Ok(())
+}

@@ -64,8 +64,8 @@ module _ {S : Type 0} {g : Ghosts S} {finds : sql.Held S → Type 0} {cluster : 
 
 -- ---- All runs over one store
 
--- A run of a command, the rows of its store, and what a stop left of its tokens. `until` answered whether its turns end,
--- unless the command ended with a fault.
+-- A run of a command, the rows of its store, and what a stop left of its tokens. `until` answered whether its turns
+-- end, unless the command ended with a fault.
 pub record NamedRun (U : Type 0) : Type 0 where
   pub cluster : NamedCluster
   pub moment : ℕ

@@ -49,8 +49,8 @@ pub fn opened_names_have_rows<S: Alter + Drop, D: Database<S>>()
 
 /// Seats: a store that is opened by names is a store of a history, in which each row has the token of its name.
 ///
-/// The tokens of the users file have the same seats in both. `names` are the names of all canonical tokens, and the name
-/// of each row is among them.
+/// The tokens of the users file have the same seats in both. `names` are the names of all canonical tokens, and the
+/// name of each row is among them.
 pub fn opened_names_are_seated<S: Alter + Drop, D: Database<S>>()
     ensures { (cluster : NamedCluster) (limits : Limits) (moment node : ℕ) (book : List Credential) (floors : List ℕ)
         (store : SeatedRecord (SqlHeld S)) (counts : RowCounts) (names : List (List ℕ)) (rows : List Entry)
@@ -136,7 +136,8 @@ pub fn served_names_are_processes<S: Alter + Drop, D: Database<S>, U: Stop>()
     named_ports_tell_envelopes();
 }
 
-/// Histories: all runs by names over the members' stores have one history of `book_law`, with any commands between them.
+/// Histories: all runs by names over the members' stores have one history of `book_law`, with any commands between
+/// them.
 ///
 /// Each run finds what the use before it left, and gives the store its new rows by enrolments. The promises of
 /// `books_are_safe` hold of the history if no vote is forged in it.

@@ -9,4 +9,4 @@ pub returns-clause-known : goal.returns-clause-known
 returns-clause-known c = known_rise
 
 pub returns-clause-from_the_start : goal.returns-clause-from_the_start
-returns-clause-from_the_start c = λ key names me boot members floors calls row. told_rise (new_packer key names me boot members floors) calls row
+returns-clause-from_the_start c = λ key names me boot members start calls row. told_rise (new_packer key names me boot members start) calls row

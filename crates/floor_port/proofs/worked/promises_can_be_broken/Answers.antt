@@ -1,4 +1,4 @@
-use Rattle.std.proofs.Common.{◌≡◌, ℕ, [], ◌∷◌, ◌++◌, List, length, Option, None, refl, inl, inr, sym, ap, arith, ◌∙◌, subst}
+use Rattle.std.proofs.Common.{◌≡◌, ℕ, [], ◌∷◌, ◌++◌, List, length, Option, None, refl, inl, inr, true≢false, sym, ap, arith, ◌∙◌, subst}
 use Rattle.std.specs.Prelude.{◌⊎◌, Some, slice_index}
 use Rattle.hmac_core.specs.Unfolded.sha256_steps
 use Rattle.datagram_port.specs.Port.{PortEvent, Received}
@@ -16,6 +16,7 @@ use Rattle.floor_port.specs.Floors.{floor_bytes, told_in}
 use Rattle.floor_port.specs.Promises.{Among, IsTold, WentBack}
 use Rattle.floor_port.specs.Runs.{Call, Came}
 use Rattle.floor_port.specs.declared.floor.NamedFloor.{NamedFloor}
+use Rattle.floor_port.proofs.HandLemmas.{none_known}
 use Rattle.floor_port.proofs.worked.promises_can_be_broken.Goals as goal
 
 pub returns-clause-told : goal.returns-clause-told
@@ -75,7 +76,10 @@ returns-clause-not_told c = λ h. elim h [
     | inl own ↦ let e = own.event_is in absurd cc
     | inr told ↦ elim told [
       | inl floor ↦ untold floor.head floor.floor floor.is_told
-      | inr silent ↦ untold silent.went_back.later _ silent.went_back.told_later
+      | inr silent ↦ elim silent.went_back [
+        | inl known ↦ absurd (true≢false (sym known ∙ none_known silent.member))
+        | inr back ↦ untold back.1.later _ back.1.told_later
+      ]
     ]
   ]
 ]
@@ -135,7 +139,10 @@ went_back = record {
 
 pub returns-clause-silenced : goal.returns-clause-silenced
 returns-clause-silenced c =
-    inr (inr (inr (record { member = 1; datagram = one_floor; came = inl refl; name = name_with 0xaa; went_back = went_back; event_is = refl })))
+    inr (inr (inr (record { member = 1; datagram = one_floor; came = inl refl; went_back = inr (name_with 0xaa, went_back); event_is = refl })))
+
+pub returns-clause-known : goal.returns-clause-known
+returns-clause-known c = inr (inr (inr (record { member = 1; datagram = one_floor; came = inl refl; went_back = inl refl; event_is = refl })))
 
 pub returns-clause-went_back : goal.returns-clause-went_back
 returns-clause-went_back c = went_back
@@ -251,11 +258,15 @@ returns-clause-not_lower c = λ h. elim h [
     | inr told ↦ elim told [
       | inl floor ↦ some_bytes floor.head (floor_bytes floor.floor) (ap event_bytes floor.event_is)
       | inr silent ↦
-          let back = silent.went_back in
-          let one = boot_4 back.earlier _ back.told_earlier in
-          let two = boot_4 back.later _ back.told_later in
-          let less = back.is_later in
-          absurd (omega (arith, one, two, less))
+          elim silent.went_back [
+            | inl known ↦ absurd (true≢false (sym known ∙ none_known silent.member))
+            | inr went ↦
+                let back = went.1 in
+                let one = boot_4 back.earlier _ back.told_earlier in
+                let two = boot_4 back.later _ back.told_later in
+                let less = back.is_later in
+                absurd (omega (arith, one, two, less))
+          ]
     ]
   ]
 ]

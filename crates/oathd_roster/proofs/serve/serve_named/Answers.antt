@@ -1,10 +1,10 @@
 -- The port of the run has the setup that it began with, and so the translator and the packer.
 use Rattle.std.proofs.Common.{◌≡◌, ◌∙◌, ℕ, List, ap, inr, refl, sym, subst}
 use Rattle.std.specs.Prelude.{IsSome}
-use Rattle.floor_port.specs.Packer.{new_packer}
+use Rattle.floor_port.specs.Packer.{StartRecord, new_packer}
 use Rattle.floor_port.specs.Runs.{at_start}
 use Rattle.oathd_roster.specs.Served.{packer_of, translator_of}
-use Rattle.oathd_roster.proofs.ServedLemmas.{served_under}
+use Rattle.oathd_roster.proofs.ServedLemmas.{served_under, start_of}
 use Rattle.oathd_roster.proofs.serve.serve_named.Goals as goal
 
 pub returns-clause-turns : goal.returns-clause-turns
@@ -18,13 +18,13 @@ returns-clause-turns g c =
     let last = run.1 in
     let same = ap g.P.Port.setup (ap (λ p. p.port.port) below ∙ ap (λ p. p.port) made.0 ∙ joining.port) in
     let lent = c.deref.ensures.value in
-    let floors : port.port.calls.floors ≡ naming.floors.items = ap (λ p. p.calls.floors) below ∙ made.3 ∙ lent in
-    let start = made.1 ∙ ap (λ (f : List ℕ). new_packer naming.key naming.names naming.node.me naming.node.boot naming.node.members f) lent in
-    let packed = ap (λ (f : List ℕ). at_start (packer_of naming) f) (sym floors) in
+    let begun = made.3 ∙ ap (start_of naming.node.gone_back) lent in
+    let start = made.2 ∙ ap (λ (s : StartRecord). new_packer naming.key naming.names naming.node.me naming.node.boot naming.node.members s) begun in
+    let packed = ap (λ (s : StartRecord). at_start (packer_of naming) s) (sym (ap (λ p. p.calls.start) below ∙ begun)) in
     let served = served_under g.S.FloorStore.held g.U.Attend.acts c.args.node.now c.serve_asked.new.node c.args.turns (g.U.Attend.answers c.serve_asked.new.until.attendant) run.0
     port.translator last.translator (translator_of naming) port.port.packer last.port.packer (packer_of naming) last.port.port.bundler
     port.calls.events last.calls.events last.port.calls.calls last.port.port.calls.calls (g.P.Port.setup port.port.port.port) (g.P.Port.setup last.port.port.port)
-    port.port.calls.floors last.port.calls.floors (g.P.Port.events last.port.port.port) (c.new-named.ensures.translator) refl (c.new-named.ensures.calls)
+    port.port.calls.start last.port.calls.start (g.P.Port.events last.port.port.port) (c.new-named.ensures.translator) refl (c.new-named.ensures.calls)
     (ap (λ p. p.packer) below ∙ start) packed
     (subst IsSome (sym same) c.requires.known) run.2 run.3 last.after last.port.after last.port.port.after in
     inr (run.0, last.port.port.port, served.0, served.1 ∙ same, run.4)

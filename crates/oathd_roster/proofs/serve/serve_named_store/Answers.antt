@@ -25,7 +25,7 @@ returns-clause-served g c =
     let members = ap (λ (all : Vec SocketAddrV4). all.items) c.new-port.ensures.members in
     let answers = g.U.Stop.answers c.in_ok-served.served.1 in
     has_served g.S.Store g.D.Database.finds cluster c.args.moment serving (g.R.Read.remaining c.args.users) users.book users.floors.items
-    c.in_ok-named.ensures.users found counts c.in_ok-node.node c.serve_desk.new.node boot c.in_ok-floors.floors.items opened c.in_ok-node.ensures.opened c.in_ok-node.ensures.book
+    c.in_ok-named.ensures.users found counts c.in_ok-node.node c.serve_desk.new.node boot c.args.socket.now.gone_back c.in_ok-floors.floors.items opened c.in_ok-node.ensures.opened c.in_ok-node.ensures.book
     c.in_ok-node.ensures.limits (c.in_ok-node.ensures.key ∙ c.bare-bare.ensures) c.in_ok-node.ensures.place
     (λ clean. ap (λ (start : Start). start.boot) c.start_of-start.ensures ∙ ap (λ (b : ℕ). b + 1) (c.in_ok-boot.ensures.reads.ok clean))
     c.in_ok-floors.ensures.floors answers c.in_ok-served.served.0
@@ -52,7 +52,7 @@ returns-in_err-served-clause-fault g c =
     (ends_early g.S.Store g.D.Database.finds cluster c.args.moment serving (g.R.Read.remaining c.args.users) users.book users.floors.items
     c.in_ok-named.ensures.users fault c.in_err-served.ensures.fault
     (λ served. ends_served g.S.Store g.D.Database.finds cluster c.args.moment serving (g.R.Read.remaining c.args.users) users.book users.floors.items
-    c.in_ok-named.ensures.users found counts c.in_ok-node.node c.serve_desk.new.node boot c.in_ok-floors.floors.items opened c.in_ok-node.ensures.opened c.in_ok-node.ensures.book
+    c.in_ok-named.ensures.users found counts c.in_ok-node.node c.serve_desk.new.node boot c.args.socket.now.gone_back c.in_ok-floors.floors.items opened c.in_ok-node.ensures.opened c.in_ok-node.ensures.book
     c.in_ok-node.ensures.limits (c.in_ok-node.ensures.key ∙ c.bare-bare.ensures) c.in_ok-node.ensures.place
     (λ clean. ap (λ (start : Start). start.boot) c.start_of-start.ensures ∙ ap (λ (b : ℕ). b + 1) (c.in_ok-boot.ensures.reads.ok clean))
     c.in_ok-floors.ensures.floors fault
@@ -112,7 +112,7 @@ returns-in_err-handle-clause-fault g c =
     err_is c.from_residual-in_err-handle.result (Command fault)
     (λ (x : RosterFault). IfSome a (EndsServingNamed g.S.Store g.D.Database.finds cluster c.args.moment c.args.serving x))
     c.from_residual-in_err-handle.ensures.1
-    (ends_socket g.S.Store g.D.Database.finds cluster c.args.moment c.args.serving a users.book users.floors.items c.in_ok-named.ensures.users fault c.in_err-handle.ensures)
+    (ends_socket g.S.Store g.D.Database.finds cluster c.args.moment c.args.serving a users.book users.floors.items c.in_ok-named.ensures.users fault c.in_err-handle.ensures.fault)
 
 pub returns-in_err-front-clause-fault : goal.returns-in_err-front-clause-fault
 returns-in_err-front-clause-fault g c =

@@ -7,17 +7,8 @@ use Rattle.std.specs.Net.Socket.{v4_port}
 use Rattle.std.proofs.NetLemmas.Theorems.{IsSocketV4Text_unique}
 use Rattle.udp_port.specs.Examples.{at_local}
 use Rattle.oathd_words.specs.Broken.{local_text}
+use Rattle.oathd_words.proofs.MembersLemmas.{five}
 use Rattle.oathd_words.proofs.laws.members_can_be_broken.Goals as goal
-
-five : IsSocketV4Text (local_text 5) (at_local 5)
-unfolding digits
-five = (
-  codes "127.0.0.1",
-  codes ":5",
-  refl,
-  record { a = 127; b = 0; c = 0; d = 1; fit = (lit< tt, lit< tt, lit< tt, lit< tt); value = refl; spelled = refl },
-  (codes "5", refl, ((lit< tt, (lit< tt, tt)), refl), lit< tt),
-)
 
 six : IsSocketV4Text (local_text 6) (at_local 6)
 unfolding digits

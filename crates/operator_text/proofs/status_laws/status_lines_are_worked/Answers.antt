@@ -35,6 +35,14 @@ pub returns-clause-refusals : goal.returns-clause-refusals
 unfolding digits
 returns-clause-refusals c = refl
 
+pub returns-clause-batches : goal.returns-clause-batches
+unfolding digits
+returns-clause-batches c = refl
+
+pub returns-clause-commits : goal.returns-clause-commits
+unfolding digits
+returns-clause-commits c = refl
+
 pub returns-clause-causes : goal.returns-clause-causes
 unfolding digits
 returns-clause-causes c = refl

@@ -15,6 +15,10 @@ pub returns-clause-refused : goal.returns-clause-refused
 unfolding digits
 returns-clause-refused c = refl
 
+pub returns-clause-commits : goal.returns-clause-commits
+unfolding digits
+returns-clause-commits c = refl
+
 pub returns-clause-unopened : goal.returns-clause-unopened
 unfolding digits
 returns-clause-unopened c = refl

@@ -7,8 +7,9 @@ use Rattle.floor_port.proofs.port.FloorPort.take_fell.Goals as goal
 pub invariant_of-self : goal.invariant_of-self
 invariant_of-self g c =
     let old = c.args.self.now in
-    let all = fells_over (at_start old.packer old.calls.floors) old.calls.calls in
+    let all = fells_over (at_start old.packer old.calls.start) old.calls.calls in
     record {
+      places = old.places;
       after = old.after;
       untold = subst (λ (l : List Fell). AreUntold l all) (sym c.take_first.ensures.rest) (untold_taken old.falls all old.untold);
     }

@@ -3,7 +3,7 @@ use Rattle.std.proofs.Common.{◌∷◌, [], ◌++◌, ◌∙◌, List, ℕ, len
 use Rattle.datagram_port.specs.Port.{event_of_receive}
 use Rattle.floor_port.specs.Runs.{Came, Left}
 use Rattle.floor_port.proofs.CallLemmas.{after_noted, grows_came, handed_left, may_receive, none_left, some_left, told_noted}
-use Rattle.floor_port.proofs.FellLemmas.{untold_noted}
+use Rattle.floor_port.proofs.FellLemmas.{places_noted, untold_noted}
 use Rattle.floor_port.proofs.OfferLemmas.{grows_none}
 use Rattle.floor_port.proofs.SetupLemmas.{setup_noted}
 use Rattle.floor_port.proofs.port.FloorPortPort.receive.Goals as goal
@@ -15,9 +15,10 @@ invariant_of-self g c =
     let left = length old.packer.pending.floors in
     let from = old.packer.pending.head.from in
     record {
+      places = places_noted old.calls c.note_left.new.self (old.calls.calls ++ Left ∷ []) old.places c.note_left.ensures;
       after = after_noted events events old.packer c.hand_in.new.self old.calls c.note_left.new.self Left
           old.after (some_left left from c.in-Some.sender (sym c.in-Some.is ∙ c.pending_from.ensures)) c.note_left.ensures c.hand_in.ensures.after (grows_none events);
-      untold = untold_noted events old.packer c.hand_in.new.self old.calls c.note_left.new.self Left old.falls old.falls old.after old.untold c.note_left.ensures c.hand_in.ensures.after refl;
+      untold = untold_noted events old.packer c.hand_in.new.self old.calls c.note_left.new.self Left old.falls old.falls old.after old.places old.untold c.note_left.ensures c.hand_in.ensures.after refl;
     }
 
 pub returns-in-Some-clause-event : goal.returns-in-Some-clause-event
@@ -38,11 +39,12 @@ invariant_of-self-2 g c =
     let event = event_of_receive received buffer in
     let noted = c.note_receive.ensures ∙ ap (λ (b : List ℕ). record old.calls { calls = old.calls.calls ++ Came (event_of_receive received b) ∷ [] }) c.as_slice.ensures in
     record {
+      places = places_noted old.calls c.note_receive.new.self (old.calls.calls ++ Came event ∷ []) old.places noted;
       after = after_noted (g.P.Port.events old.port) (g.P.Port.events c.take.new.port) old.packer c.take.new.packer old.calls c.note_receive.new.self (Came event)
           old.after (may_receive old.packer received buffer (none_left left from (sym c.in_default.is ∙ c.pending_from.ensures))) noted c.take.ensures.after
           (grows_came (g.P.Port.events old.port) (g.P.Port.events c.receive-received.new.self) (g.P.Port.events c.take.new.port) old.packer event c.receive-received.ensures.event c.take.ensures.offers);
       untold = untold_noted (g.P.Port.events old.port) old.packer c.take.new.packer old.calls c.note_receive.new.self (Came event) old.falls c.take.new.falls
-          old.after old.untold noted c.take.ensures.after c.take.ensures.fell;
+          old.after old.places old.untold noted c.take.ensures.after c.take.ensures.fell;
     }
 
 pub returns-clause-event : goal.returns-clause-event

@@ -1,4 +1,3 @@
-use Rattle.oathd.proofs.NamedLemmas.{reloaded_well, served_with_well}
 use Rattle.oathd.proofs.WordsLemmas.{done_so}
 use Rattle.oathd.proofs.databases.Site.perform.Goals as goal
 
@@ -23,17 +22,9 @@ returns-in-Gates g c = done_so _ _ c.args.action _ c.args.self.now.cluster.now _
 pub returns-in-Unlock : goal.returns-in-Unlock
 returns-in-Unlock g c = done_so _ _ c.args.action _ c.args.self.now.cluster.now _ _ c.unlock.result c.in-Unlock.is c.unlock.ensures
 
-pub returns-then-reloads : goal.returns-then-reloads
-returns-then-reloads g c =
-    done_so _ _ c.args.action _ c.args.self.now.cluster.now _ _ c.reload.result c.in-Serve.is
-    (reloaded_well _ _ c.in-Serve.cluster c.in-Serve.turns c.in-Serve.is_logged c.in-Serve.clients c.args.self.now.cluster.now c.in-Serve.reloads
-    c.reload.result c.if-reloads.true c.reload.ensures.boot)
-
-pub returns-else-reloads : goal.returns-else-reloads
-returns-else-reloads g c =
-    done_so _ _ c.args.action _ c.args.self.now.cluster.now _ _ c.serve.result c.in-Serve.is
-    (served_with_well _ _ c.in-Serve.cluster c.in-Serve.turns c.in-Serve.is_logged c.in-Serve.clients c.args.self.now.cluster.now c.in-Serve.reloads
-    c.serve.result c.if-reloads.false c.serve.ensures)
+pub returns-in-Serve : goal.returns-in-Serve
+returns-in-Serve g c =
+    done_so _ _ c.args.action _ c.args.self.now.cluster.now _ _ c.serve_logged.result c.in-Serve.is c.serve_logged.ensures
 
 pub returns-in-Init : goal.returns-in-Init
 returns-in-Init g c = done_so _ _ c.args.action _ c.args.self.now.cluster.now _ _ c.init.result c.in-Init.is c.init.ensures

@@ -9,7 +9,7 @@ abbrev pub invariant-loop-boot : goal.invariant-loop-boot
 invariant-loop-boot g l = record {
   few : l.boot.turns < 2 ^ 54;
   later : (later : List Boot) × AreBoots (ghosts.later l.serving l.cluster) l.initial.boot l.boot later;
-  unlogged : l.serving.is_logged ≡ false → l.held ≡ l.fn.held;
+  unlogged : l.serving.is_logged ≡ false → l.log ≡ l.fn.log;
 }
 
 abbrev pub decreases-loop-boot : goal.decreases-loop-boot

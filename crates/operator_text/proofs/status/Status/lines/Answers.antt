@@ -7,4 +7,4 @@ returns-clause-each c prints =
     let none = All-same IsStatusLine _ _ c.new-lines.ensures (All-nil IsStatusLine) in
     let named = c.push_book.ensures.each prints (c.push_identity.ensures.each prints none) in
     let refused = c.push_refused.ensures.each (c.push_tokens.ensures.each named) in
-    c.push_others.ensures.each (c.push_unopened.ensures.each (c.push_quantity.ensures.each refused))
+    c.push_others.ensures.each (c.push_unopened.ensures.each (c.push_batches.ensures.each refused))

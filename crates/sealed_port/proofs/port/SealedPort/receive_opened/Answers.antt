@@ -1,26 +1,19 @@
 -- An event is passed over, or handed in after all that was passed over.
-use Rattle.std.proofs.Common.{◌∷◌, [], ◌∙◌, ap, sym, subst, inl}
-use Rattle.datagram_port.specs.Port.{Grows, event_of_receive}
+use Rattle.std.proofs.Common.{◌∙◌, inl}
 use Rattle.sealed_port.proofs.PortLemmas.{one_handed, one_passed}
 use Rattle.sealed_port.proofs.SetupLemmas.{heard_below}
 use Rattle.sealed_port.proofs.port.SealedPort.receive_opened.Goals as goal
 
 pub returns-in-Some-clause-receives : goal.returns-in-Some-clause-receives
 returns-in-Some-clause-receives g c =
-    inl (one_handed c.loop.invariant.1
-    (subst (λ port. Grows (g.P.Port.events c.loop.self.port) (g.P.Port.events port) (event_of_receive c.receive-received.result c.receive-received.new.buffer ∷ []))
-    (sym c.in-Some.ensures.same.0) c.receive-received.ensures.event)
-    c.in-Some.ensures.takes)
+    inl (one_handed c.loop.invariant.1 c.receive-received.ensures.event c.in-Some.ensures.takes)
 
 pub loop-preserved : goal.loop-preserved
 loop-preserved g c = (
-  c.in-None.ensures.same.1 ∙ c.loop.invariant.0,
-  one_passed c.loop.invariant.1
-      (subst (λ port. Grows (g.P.Port.events c.loop.self.port) (g.P.Port.events port) (event_of_receive c.receive-received.result c.receive-received.new.buffer ∷ []))
-      (sym c.in-None.ensures.same.0) c.receive-received.ensures.event)
-      c.in-None.ensures.takes,
-  c.in-None.ensures.stays ∙ c.loop.invariant.2,
-  ap g.P.Port.setup c.in-None.ensures.same.0 ∙ c.receive-received.ensures.stays ∙ c.loop.invariant.3,
+  c.in-None.ensures.calls ∙ c.loop.invariant.0,
+  one_passed c.loop.invariant.1 c.receive-received.ensures.event c.in-None.ensures.takes,
+  c.in-None.ensures.stays.0 ∙ c.loop.invariant.2,
+  c.in-None.ensures.stays.1 ∙ c.receive-received.ensures.stays ∙ c.loop.invariant.3,
 )
 
 pub invariant_of-self : goal.invariant_of-self

@@ -16,16 +16,16 @@ use denote.Signature.{plain}
 use denote.Steps.{opens, closes}
 use denote.Triple.Walked.{Stays, walk_of, says, stay_ref, Goes-ref, stay_none_slice, Goes-none_slice, ends_at}
 use Rattle.floor_port.specs.declared.record.Record.{Record}
-use Rattle.floor_port.specs.contracts.record.Record.note_start as f
+use Rattle.floor_port.specs.contracts.record.Record.note_floors as f
 use Rattle.floor_port.specs.contracts.record.Record.{the_row as R}
-use Rattle.floor_port.proofs.record.Record.note_start.Statement.{statement}
-use Rattle.floor_port.proofs.record.Record.note_start.Code as code
+use Rattle.floor_port.proofs.record.Record.note_floors.Statement.{statement}
+use Rattle.floor_port.proofs.record.Record.note_floors.Code as code
 
 abbrev stayed : Stays f.ended.signature.params f.ended.kept
 stayed = (stay_ref (0 ∷ []) tt (plain (λ _. R)), (stay_none_slice (1 ∷ []) tt (plain (λ _. u64)) yes, tt))
 
-pub note_start_spec : {M : Type 1} → statement M
-note_start_spec 𝓤 𝓛 𝓜 𝓡 wired =
+pub note_floors_spec : {M : Type 1} → statement M
+note_floors_spec 𝓤 𝓛 𝓜 𝓡 wired =
     let c = f.clauses 𝓛 𝓜.mem 𝓡.returns in let W = walk_of 𝓛 f.ended stayed c in
     proved 𝓛 f.ended stayed c 𝓜 𝓡
     (Goes-ref 𝓛 2 0 tt (plain (λ _. R)), (Goes-none_slice 𝓛 2 (1 ∷ []) tt (plain (λ _. u64)) yes, tt))
@@ -34,7 +34,7 @@ note_start_spec 𝓤 𝓛 𝓜 𝓡 wired =
     (λ κs. (mut_Tells (named 0) κs.0 R, (shr_slice_Tells (named 1) κs.1.0 u64, tt))) (λ κs qs bounds a _ are.
     let b = a.0.ref_ptr.0 in let o = a.0.ref_ptr.1 in let h = a.0.now in let floors = a.1.0 in
     let y : W.Ghost = ((κs, qs, bounds, a, (mut_vals a.0, (shr_slice_vals floors, tt))), tt) in
-    let after : Record = record h { floors = floors.now } in
+    let after : Record = record h { start = record h.start { floors = floors.now } } in
     qed 𝓛 (((‵ (flft κs.0 qs.0) ⊛ ‵ (flft κs.1.0 qs.1.0) ⊛ ‵ ftrue)
     ⊛ ‵ ((MutRef (named 0) κs.0 R).own_val a.0 (mut_vals a.0))
     ⊛ ‵ ((ShrSlice (named 1) κs.1.0 u64).own_val floors (shr_slice_vals floors)) ⊛ ‵ ftrue) ∷ ‵ ftrue ∷ []) ∵

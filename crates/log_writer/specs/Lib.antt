@@ -1,0 +1,4 @@
+pub mod Line
+pub mod Waiting
+pub mod Syslog
+pub mod Examples
