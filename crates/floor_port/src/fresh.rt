@@ -47,7 +47,7 @@ impl Fresh {
         ensures { self.new ≡ spec.with_fresh self.old row }
     {
         if let Some(row) = row {
-            if !self.has(row) && !self.rows.is_full() {
+            if !self.rows.is_full() && !self.has(row) {
                 self.rows.push(row);
             }
         }

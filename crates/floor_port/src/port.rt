@@ -233,7 +233,9 @@ impl<P: Port + Drop> Port for FloorPort<'_, P> {
 
     fn send(&mut self, to: Sender, bytes: &[u8]) -> bool {
         self.calls.note_offer(&to, bytes);
+        let is_taken = self.port.send(to, bytes);
+        // The datagram is under way meanwhile.
         self.packer.note_offer(to, bytes);
-        self.port.send(to, bytes)
+        is_taken
     }
 }
