@@ -13,6 +13,8 @@ impl<P: Gatekeeper + Drop> Gatekeeper for BundlePort<P> {
 
     ghost gone_back = { λ bundles. P.gone_back bundles.port };
 
+    ghost heard = { λ bundles. P.heard bundles.port };
+
     ghost differing = { λ bundles. P.differing bundles.port };
 
     ghost aside = { λ bundles. P.aside bundles.port };
@@ -35,6 +37,10 @@ impl<P: Gatekeeper + Drop> Gatekeeper for BundlePort<P> {
 
     fn gone_back(&self) -> [bool; PLACES] {
         self.port.gone_back()
+    }
+
+    fn heard(&self) -> [u64; PLACES] {
+        self.port.heard()
     }
 
     fn take_differing(&mut self) -> [bool; PLACES] {

@@ -227,6 +227,8 @@ impl<P: Gatekeeper + Drop, N: TimeSource> Gatekeeper for CountPort<'_, P, N> {
 
     ghost gone_back = { λ counted. P.gone_back counted.port };
 
+    ghost heard = { λ counted. P.heard counted.port };
+
     ghost differing = { λ counted. P.differing counted.port };
 
     ghost aside = { λ counted. P.aside counted.port };
@@ -252,6 +254,10 @@ impl<P: Gatekeeper + Drop, N: TimeSource> Gatekeeper for CountPort<'_, P, N> {
 
     fn gone_back(&self) -> [bool; PLACES] {
         self.port.gone_back()
+    }
+
+    fn heard(&self) -> [u64; PLACES] {
+        self.port.heard()
     }
 
     fn take_differing(&mut self) -> [bool; PLACES] {

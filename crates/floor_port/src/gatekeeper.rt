@@ -16,6 +16,8 @@ impl<P: Gatekeeper + Drop> Gatekeeper for FloorPort<'_, P> {
 
     ghost gone_back = { λ floors. floors.packer.claims.fallen };
 
+    ghost heard = { λ floors. P.heard floors.port };
+
     ghost differing = { λ floors. P.differing floors.port };
 
     ghost aside = { λ floors. P.aside floors.port };
@@ -38,6 +40,10 @@ impl<P: Gatekeeper + Drop> Gatekeeper for FloorPort<'_, P> {
 
     fn gone_back(&self) -> [bool; PLACES] {
         FloorPort::gone_back(self)
+    }
+
+    fn heard(&self) -> [u64; PLACES] {
+        self.port.heard()
     }
 
     fn take_differing(&mut self) -> [bool; PLACES] {

@@ -25,8 +25,8 @@ use Rattle.name_law.proofs.Datagrams.{offers_named}
 
 -- ---- translators
 
-is_first : (names : List (List ℕ)) (node : ℕ) (terms : Terms) (boot : ℕ) → IsTranslatorOf names node terms (first_translator names node terms boot)
-is_first names node terms boot = record { key = refl; names_are = refl; me = refl }
+is_first : (names : List (List ℕ)) (node : ℕ) (terms : Terms) (boot : ℕ) (known : List ℕ) → IsTranslatorOf names node terms (first_translator names node terms boot known)
+is_first names node terms boot known = record { key = refl; names_are = refl; me = refl }
 
 stays_one : (names : List (List ℕ)) (node : ℕ) (terms : Terms) (t : TranslatorRecord) (event : PortEvent) → IsTranslatorOf names node terms t → IsTranslatorOf names node terms (after_event t event)
 stays_one names node terms t event is = let k = keeps_event t event in record { key = k.key ∙ is.key; names_are = k.names ∙ is.names_are; me = k.me ∙ is.me }
@@ -102,12 +102,12 @@ each_front : {A : Type 0} (P : A → Type 0) (xs ys : List A) → Each P (xs ++ 
 each_front P [] ys h = tt
 each_front P (x ∷ xs) ys h = (h.0, each_front P xs ys h.1)
 
-pub inputs_law : (names : List (List ℕ)) (setting : Setting) (node : ℕ) (terms : Terms) (boot : ℕ) (found : Store) (taken : List NodeEvent) (calls : List PortEvent) (left : Content)
-    → IsProcess setting node terms bare found taken (handed_events (first_translator names node terms boot) calls) left
+pub inputs_law : (names : List (List ℕ)) (setting : Setting) (node : ℕ) (terms : Terms) (boot : ℕ) (known : List ℕ) (found : Store) (taken : List NodeEvent) (calls : List PortEvent) (left : Content)
+    → IsProcess setting node terms bare found taken (handed_events (first_translator names node terms boot known) calls) left
     → (place from : ℕ) (read : Option Envelope) → slice_get taken place ≡ Some (Peer from read) → ReadsEvent names node terms calls from read
-inputs_law names setting node terms boot found taken calls left is place from read at =
-    let handed = handed_events (first_translator names node terms boot) calls in
-    let entries = each_filter (EventCame names node terms calls) is_receive handed (all_came names node terms (first_translator names node terms boot) calls (is_first names node terms boot)) in
+inputs_law names setting node terms boot known found taken calls left is place from read at =
+    let handed = handed_events (first_translator names node terms boot known) calls in
+    let entries = each_filter (EventCame names node terms calls) is_receive handed (all_came names node terms (first_translator names node terms boot known) calls (is_first names node terms boot known)) in
     let receipts = each_entry names node terms calls is.receipts (subst (λ l. Each (EventCame names node terms calls) l) (sym is.received) entries) in
     let all = subst (λ l. Each (InputCame names node terms calls) l) is.events (turns_came names node terms calls 0 is.receipts receipts) in
     each_get (InputCame names node terms calls) taken place (Peer from read) (each_front (InputCame names node terms calls) taken is.later all) at
@@ -134,11 +134,11 @@ module _ (names : List (List ℕ)) (setting : Setting) (node : ℕ) (terms : Ter
     parts_came (state_after_part setting node terms bare s part) parts left are.1 (each_rest came part.entries (entries_in parts) h),
   )
 
-pub inputs_in_parts_law : (names : List (List ℕ)) (setting : Setting) (node : ℕ) (terms : Terms) (boot : ℕ) (found : Store) (parts : List Part) (calls : List PortEvent) (left : Content)
-    → IsProcessIn setting node terms bare found parts left → entries_in parts ≡ handed_events (first_translator names node terms boot) calls
+pub inputs_in_parts_law : (names : List (List ℕ)) (setting : Setting) (node : ℕ) (terms : Terms) (boot : ℕ) (known : List ℕ) (found : Store) (parts : List Part) (calls : List PortEvent) (left : Content)
+    → IsProcessIn setting node terms bare found parts left → entries_in parts ≡ handed_events (first_translator names node terms boot known) calls
     → (i place from : ℕ) (part : Part) (read : Option Envelope) → slice_get parts i ≡ Some part → slice_get part.taken place ≡ Some (Peer from read) → ReadsEvent names node terms calls from read
-inputs_in_parts_law names setting node terms boot found parts calls left is entries i place from part read there at =
-    let handed = all_came names node terms (first_translator names node terms boot) calls (is_first names node terms boot) in
+inputs_in_parts_law names setting node terms boot known found parts calls left is entries i place from part read there at =
+    let handed = all_came names node terms (first_translator names node terms boot known) calls (is_first names node terms boot known) in
     let all = parts_came names setting node terms calls (opened_node (seen_in found terms.seats)) parts left is.are (subst (λ l. Each (EventCame names node terms calls) l) (sym entries) handed) in
     let one = each_get (λ (x : Part). Each (InputCame names node terms calls) x.taken) parts i part all there in
     each_get (InputCame names node terms calls) part.taken place (Peer from read) one at
@@ -213,7 +213,7 @@ module _ (names : List (List ℕ)) (node : ℕ) (terms : Terms) (boot : ℕ) whe
       one_more (ToPeerOwn envelope) l = refl
       one_more (ToClientOwn answer) l = refl
 
-pub offers_law : (names : List (List ℕ)) (node : ℕ) (terms : Terms) (boot : ℕ) (calls : List PortEvent) (own : List OwnOutput) → AreSeated terms own
-    → map (offer_of_output bare) own ≡ offers_in (handed_events (first_translator names node terms boot) calls)
-    → offers_in (below_events (first_translator names node terms boot) calls) ≡ map (named_offer names terms boot) own
-offers_law names node terms boot calls own seated e = all_offers names node terms boot calls (first_translator names node terms boot) (is_first names node terms boot) refl own seated e
+pub offers_law : (names : List (List ℕ)) (node : ℕ) (terms : Terms) (boot : ℕ) (known : List ℕ) (calls : List PortEvent) (own : List OwnOutput) → AreSeated terms own
+    → map (offer_of_output bare) own ≡ offers_in (handed_events (first_translator names node terms boot known) calls)
+    → offers_in (below_events (first_translator names node terms boot known) calls) ≡ map (named_offer names terms boot) own
+offers_law names node terms boot known calls own seated e = all_offers names node terms boot calls (first_translator names node terms boot known) (is_first names node terms boot known) refl own seated e

@@ -14,9 +14,10 @@ use Rattle.book_law.specs.Lives.{Terms, named_envelope}
 use Rattle.book_law.specs.Uses.{OwnOutput, ToClientOwn, ToPeerOwn}
 use Rattle.name_law.specs.Datagrams.{IsTranslatorOf, handed_bytes, named_datagram, own_names}
 
--- the translator of a node's process in a boot, at its start
-abbrev pub first_translator : List (List ℕ) → ℕ → Terms → ℕ → TranslatorRecord
-first_translator names node terms boot = new_translator terms.key (own_names names terms.seats) node boot
+-- the translator of a node's process in a boot, at its start, which knows boots of the members
+abbrev pub first_translator : List (List ℕ) → ℕ → Terms → ℕ → List ℕ → TranslatorRecord
+first_translator names node terms boot known =
+    new_translator terms.key (own_names names terms.seats) node boot known
 
 -- A process reads what its translator handed in for one of the events: bytes from the member's address.
 pub record ReadsEvent (names : List (List ℕ)) (node : ℕ) (terms : Terms) (calls : List PortEvent) (from : ℕ)

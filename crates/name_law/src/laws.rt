@@ -82,17 +82,17 @@ pub fn named_datagrams_tell_envelopes()
 /// The translator received the events of `calls`, and the process's offers are among them.
 pub fn named_ports_tell_envelopes()
     // Each input from a member's address is what the translator handed in for one of the events.
-    ensures inputs { (names : List (List ℕ)) (setting : Setting) (node boot : ℕ) (terms : Terms) (found : Store)
-        (taken : List NodeEvent) (calls : List PortEvent) (left : Content)
+    ensures inputs { (names : List (List ℕ)) (setting : Setting) (node boot : ℕ) (known : List ℕ) (terms : Terms)
+        (found : Store) (taken : List NodeEvent) (calls : List PortEvent) (left : Content)
         → IsProcess setting node terms bare found taken
-        (handed_events (first_translator names node terms boot) calls) left
+        (handed_events (first_translator names node terms boot known) calls) left
         → (place from : ℕ) (read : Option Envelope) → slice_get taken place ≡ Some (Peer from read)
         → ReadsEvent names node terms calls from read }
     // The same holds of each part of a process in parts.
-    ensures inputs_in_parts { (names : List (List ℕ)) (setting : Setting) (node boot : ℕ) (terms : Terms)
-        (found : Store) (parts : List Part) (calls : List PortEvent) (left : Content)
+    ensures inputs_in_parts { (names : List (List ℕ)) (setting : Setting) (node boot : ℕ) (known : List ℕ)
+        (terms : Terms) (found : Store) (parts : List Part) (calls : List PortEvent) (left : Content)
         → IsProcessIn setting node terms bare found parts left
-        → entries_in parts ≡ handed_events (first_translator names node terms boot) calls
+        → entries_in parts ≡ handed_events (first_translator names node terms boot known) calls
         → (i place from : ℕ) (part : Part) (read : Option Envelope) → slice_get parts i ≡ Some part
         → slice_get part.taken place ≡ Some (Peer from read) → ReadsEvent names node terms calls from read }
     // It is unforged if all bytes from the member's address that tell a vote were offered before.
@@ -105,10 +105,11 @@ pub fn named_ports_tell_envelopes()
     ensures votes { (names : List (List ℕ)) (node from : ℕ) (terms : Terms) (bytes : List ℕ)
         → TellsVote names node terms from bytes → IsVoteFor terms.key from node bytes }
     // The offers below are those of the process in order, each envelope as its datagram under canonical tokens.
-    ensures offers { (names : List (List ℕ)) (node boot : ℕ) (terms : Terms) (calls : List PortEvent)
-        (own : List OwnOutput) → AreSeated terms own
-        → map (offer_of_output bare) own ≡ offers_in (handed_events (first_translator names node terms boot) calls)
-        → offers_in (below_events (first_translator names node terms boot) calls)
+    ensures offers { (names : List (List ℕ)) (node boot : ℕ) (known : List ℕ) (terms : Terms)
+        (calls : List PortEvent) (own : List OwnOutput) → AreSeated terms own
+        → map (offer_of_output bare) own
+        ≡ offers_in (handed_events (first_translator names node terms boot known) calls)
+        → offers_in (below_events (first_translator names node terms boot known) calls)
         ≡ map (named_offer names terms boot) own }
 {}
 

@@ -163,7 +163,7 @@ pub fn stores_below_can_be_broken()
 
 /// Worked cases and counterexamples: each condition of what a process reads and offers at its port.
 pub fn ports_can_be_broken()
-    ensures start { first_translator all_names 2 terms_2 5 ≡ node_2 }
+    ensures start { first_translator all_names 2 terms_2 5 (replicate 10 0) ≡ node_2 }
     ensures offer { named_offer all_names terms_1 2 (ToPeerOwn (ask_of 0)) ≡ Offered (FromMember 2) named_ask }
     ensures answer { named_offer all_names terms_1 2 (ToClientOwn silver_told)
         ≡ Offered (FromLine 7) silver_told.bytes }

@@ -39,17 +39,18 @@ below_more t (event ∷ calls) call =
 abbrev with_told : TranslatorRecord → Option Older → List Bool → TranslatorRecord
 with_told t older differing = record t { older = older; differing = differing }
 
-abbrev made : List ℕ → List (List ℕ) → ℕ → ℕ → List ℕ → Option Older → List Bool → TranslatorRecord
-made key names me boot heard older differing =
-    record { key = key; names = names; me = me; boot = boot; heard = heard; older = older; differing = differing }
+abbrev made : List ℕ → List (List ℕ) → ℕ → ℕ → List ℕ → List ℕ → Option Older → List Bool → TranslatorRecord
+made key names me boot known heard older differing =
+    record { key = key; names = names; me = me; boot = boot; known = known; heard = heard; older = older; differing = differing }
 
-is_with : (t w : TranslatorRecord) → w.key ≡ t.key → w.names ≡ t.names → w.me ≡ t.me → w.boot ≡ t.boot → t.heard ≡ w.heard → t ≡ with_told w t.older t.differing
-is_with t w key names me boot heard =
-    ap (λ (x : List ℕ). made x t.names t.me t.boot t.heard t.older t.differing) (sym key)
-    ∙ ap (λ (x : List (List ℕ)). made w.key x t.me t.boot t.heard t.older t.differing) (sym names)
-    ∙ ap (λ (x : ℕ). made w.key w.names x t.boot t.heard t.older t.differing) (sym me)
-    ∙ ap (λ (x : ℕ). made w.key w.names w.me x t.heard t.older t.differing) (sym boot)
-    ∙ ap (λ (x : List ℕ). made w.key w.names w.me w.boot x t.older t.differing) heard
+is_with : (t w : TranslatorRecord) → w.key ≡ t.key → w.names ≡ t.names → w.me ≡ t.me → w.boot ≡ t.boot → w.known ≡ t.known → t.heard ≡ w.heard → t ≡ with_told w t.older t.differing
+is_with t w key names me boot known heard =
+    ap (λ (x : List ℕ). made x t.names t.me t.boot t.known t.heard t.older t.differing) (sym key)
+    ∙ ap (λ (x : List (List ℕ)). made w.key x t.me t.boot t.known t.heard t.older t.differing) (sym names)
+    ∙ ap (λ (x : ℕ). made w.key w.names x t.boot t.known t.heard t.older t.differing) (sym me)
+    ∙ ap (λ (x : ℕ). made w.key w.names w.me x t.known t.heard t.older t.differing) (sym boot)
+    ∙ ap (λ (x : List ℕ). made w.key w.names w.me w.boot x t.heard t.older t.differing) (sym known)
+    ∙ ap (λ (x : List ℕ). made w.key w.names w.me w.boot w.known x t.older t.differing) heard
 
 read_with : (w : TranslatorRecord) (older : Option Older) (differing : List Bool) (read : Option (Head × List ℕ))
     → (after_read (with_told w older differing) read).heard ≡ (after_read w read).heard
@@ -95,15 +96,17 @@ below_with w older differing (Offered (Client number) bytes) = refl
 is_after : (below : Option (List PortEvent)) (t : TranslatorRecord) (calls : List PortEvent) → IsAfter below t calls → t ≡ with_told (after_events (at_start t) calls) t.older t.differing
 is_after below t calls a =
     let k = keeps_events (at_start t) calls in
-    is_with t (after_events (at_start t) calls) k.key k.names k.me k.boot a.heard_is
+    is_with t (after_events (at_start t) calls) k.key k.names k.me k.boot k.known a.heard_is
 
 same_start : (t : TranslatorRecord) (call : PortEvent) → at_start (after_event t call) ≡ at_start t
 same_start t call =
     let k = keeps_event t call in
-    ap (λ (x : List ℕ). new_translator x (after_event t call).names (after_event t call).me (after_event t call).boot) k.key
-    ∙ ap (λ (x : List (List ℕ)). new_translator t.key x (after_event t call).me (after_event t call).boot) k.names
-    ∙ ap (λ (x : ℕ). new_translator t.key t.names x (after_event t call).boot) k.me
-    ∙ ap (λ (x : ℕ). new_translator t.key t.names t.me x) k.boot
+    let u = after_event t call in
+    ap (λ (x : List ℕ). new_translator x u.names u.me u.boot u.known) k.key
+    ∙ ap (λ (x : List (List ℕ)). new_translator t.key x u.me u.boot u.known) k.names
+    ∙ ap (λ (x : ℕ). new_translator t.key t.names x u.boot u.known) k.me
+    ∙ ap (λ (x : ℕ). new_translator t.key t.names t.me x u.known) k.boot
+    ∙ ap (λ (x : List ℕ). new_translator t.key t.names t.me t.boot x) k.known
 
 grown : (old new : Option (List PortEvent)) (added now : List PortEvent) → Grows old new added → new ≡ Some now → (before : List PortEvent) × (old ≡ Some before) × (before ++ added ≡ now)
 grown (Some before) (Some all) added now grows e = (before, refl, some_is (before ++ added) now (grows ∙ e))
@@ -187,9 +190,9 @@ after_nothing old new t calls a grows = record {
 }
 
 -- a port at its start
-pub after_none : (below : Option (List PortEvent)) (t : TranslatorRecord) (key : List ℕ) (names : List (List ℕ)) (me boot : ℕ) (calls : List PortEvent) → IfSome below (λ events. events ≡ [])
-    → t ≡ new_translator key names me boot → calls ≡ [] → IsAfter below t calls
-after_none below t key names me boot calls fresh is none =
+pub after_none : (below : Option (List PortEvent)) (t : TranslatorRecord) (key : List ℕ) (names : List (List ℕ)) (me boot : ℕ) (known : List ℕ) (calls : List PortEvent) → IfSome below (λ events. events ≡ [])
+    → t ≡ new_translator key names me boot known → calls ≡ [] → IsAfter below t calls
+after_none below t key names me boot known calls fresh is none =
     subst (IsAfter below t) (sym none) (subst (λ (x : TranslatorRecord). IsAfter below x []) (sym is) (record {
       heard_is = refl;
       below_is = λ events e. subst (λ (o : Option (List PortEvent)). IfSome o (λ l. l ≡ [])) e fresh;

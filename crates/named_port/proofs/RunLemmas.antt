@@ -54,23 +54,24 @@ pub record Keeps (old new : TranslatorRecord) : Type 0 where
   pub names : new.names ≡ old.names
   pub me : new.me ≡ old.me
   pub boot : new.boot ≡ old.boot
+  pub known : new.known ≡ old.known
   pub places : length new.heard ≡ length old.heard
 
 keeps_all : (t : TranslatorRecord) → Keeps t t
-keeps_all t = record { key = refl; names = refl; me = refl; boot = refl; places = refl }
+keeps_all t = record { key = refl; names = refl; me = refl; boot = refl; known = refl; places = refl }
 
 keeps_read : (t : TranslatorRecord) (read : Option (Head × List ℕ)) → Keeps t (after_read t read)
 keeps_read t None = keeps_all t
 keeps_read t (Some read) = go (is_older t.heard read.0)
   where
     go : (older : Bool) → Keeps t (cond older (record t { older = Some (record { member = read.0.from; boot = read.0.boot }) }) (record t { heard = slice_set t.heard read.0.from read.0.boot }))
-    go true = record { key = refl; names = refl; me = refl; boot = refl; places = refl }
-    go false = record { key = refl; names = refl; me = refl; boot = refl; places = length-set t.heard read.0.from read.0.boot }
+    go true = record { key = refl; names = refl; me = refl; boot = refl; known = refl; places = refl }
+    go false = record { key = refl; names = refl; me = refl; boot = refl; known = refl; places = length-set t.heard read.0.from read.0.boot }
 
 pub keeps_event : (t : TranslatorRecord) (event : PortEvent) → Keeps t (after_event t event)
 keeps_event t (Received (Peer number) bytes) =
     let k = keeps_read t (sent_by t number bytes) in
-    record { key = k.key; names = k.names; me = k.me; boot = k.boot; places = k.places }
+    record { key = k.key; names = k.names; me = k.me; boot = k.boot; known = k.known; places = k.places }
 keeps_event t (Received (Client number) bytes) = keeps_all t
 keeps_event t Quiet = keeps_all t
 keeps_event t Faulted = keeps_all t
@@ -81,7 +82,7 @@ keeps_events t [] = keeps_all t
 keeps_events t (event ∷ events) =
     let first = keeps_event t event in
     let rest = keeps_events (after_event t event) events in
-    record { key = rest.key ∙ first.key; names = rest.names ∙ first.names; me = rest.me ∙ first.me; boot = rest.boot ∙ first.boot; places = rest.places ∙ first.places }
+    record { key = rest.key ∙ first.key; names = rest.names ∙ first.names; me = rest.me ∙ first.me; boot = rest.boot ∙ first.boot; known = rest.known ∙ first.known; places = rest.places ∙ first.places }
 
 -- ---- the greatest boots
 
@@ -150,18 +151,9 @@ heard_over t (event ∷ events) member len =
     ∙ ap (λ (me : ℕ). max (get_or (after_event t event).heard member 0) (greatest_boot t.key me member events)) k.me in
     omega (arith, first, rest)
 
-fresh : (member : ℕ) → slice_index (replicate 10 0) member ≡ 0
-fresh member = elim (cases_lt member 10) [
-  | inl low ↦ get_or-replicate 10 member 0 0 low
-  | inr high ↦ get_or_past (replicate 10 0) member 0 high
-]
-
-pub heard_law : (key : List ℕ) (names : List (List ℕ)) (me boot member : ℕ) (events : List PortEvent)
-    → slice_index (after_events (new_translator key names me boot) events).heard member ≡ greatest_boot key me member events
-heard_law key names me boot member events =
-    let all = heard_over (new_translator key names me boot) events member refl in
-    let none = fresh member in
-    omega (arith, all, none)
+pub heard_law : (key : List ℕ) (names : List (List ℕ)) (known : List ℕ) (me boot member : ℕ) (events : List PortEvent) → length known ≡ 10
+    → slice_index (after_events (new_translator key names me boot known) events).heard member ≡ max (slice_index known member) (greatest_boot key me member events)
+heard_law key names known me boot member events len = heard_over (new_translator key names me boot known) events member len
 
 -- ---- what is handed in
 
@@ -246,11 +238,11 @@ handed_from t (Received (Peer number) named) member bytes e some =
       out = subst (λ (n : ℕ). IsOut t n named bytes) same out;
     }
 
-pub handed_law : (key : List ℕ) (names : List (List ℕ)) (me boot : ℕ) (before : List PortEvent) (event : PortEvent) (member : ℕ) (bytes : List ℕ)
-    → handed_in (after_events (new_translator key names me boot) before) event ≡ Received (Peer member) bytes → (bytes ≡ [] → ⊥)
-    → IsTranslated key names me before event member bytes
-handed_law key names me boot before event member bytes e some =
-    let first = new_translator key names me boot in
+pub handed_law : (key : List ℕ) (names : List (List ℕ)) (known : List ℕ) (me boot : ℕ) (before : List PortEvent) (event : PortEvent) (member : ℕ) (bytes : List ℕ) → length known ≡ 10
+    → handed_in (after_events (new_translator key names me boot known) before) event ≡ Received (Peer member) bytes → (bytes ≡ [] → ⊥)
+    → IsTranslated key names me known before event member bytes
+handed_law key names known me boot before event member bytes len e some =
+    let first = new_translator key names me boot known in
     let t = after_events first before in
     let h = handed_from t event member bytes e some in
     let o = h.out in
@@ -258,8 +250,9 @@ handed_law key names me boot before event member bytes e some =
     let numbered : numbered_of names o.head o.body ≡ Some bytes =
     ap (λ (x : List (List ℕ)). numbered_of x o.head o.body) (sym k.names) ∙ o.numbered_is in
     let n = numbered_parts names o.head o.body bytes numbered in
-    let heard : get_or t.heard o.head.from 0 ≡ greatest_boot key me member before =
-    ap (λ (m : ℕ). get_or t.heard m 0) o.from_is ∙ heard_law key names me boot member before in
+    let heard : get_or t.heard o.head.from 0 ≡ max (get_or known member 0) (greatest_boot key me member before) =
+    ap (λ (m : ℕ). get_or t.heard m 0) o.from_is ∙ heard_law key names known me boot member before len in
+    let newer = o.newer in
     record {
       named = h.named;
       event_is = h.event_is;
@@ -268,7 +261,8 @@ handed_law key names me boot before event member bytes e some =
       reads = ap (λ (x : List ℕ). datagram_at x h.named) (sym k.key) ∙ o.reads;
       from_is = o.from_is;
       to_is = o.to_is ∙ k.me;
-      boot_is = subst (λ (x : ℕ). x ≤ o.head.boot) heard o.newer;
+      known_is = omega (arith, heard, newer);
+      boot_is = omega (arith, heard, newer);
       one_token = n.one_token;
       number = n.number;
       name_is = name_of_number names n.number (take 16 o.body) n.number_is;
@@ -292,12 +286,12 @@ handed_at t (event ∷ calls) (suc place) handed e =
     let rest = handed_at (after_event t event) calls place handed e in
     record { event = rest.event; there = rest.there; handed_is = rest.handed_is }
 
-pub place_law : (key : List ℕ) (names : List (List ℕ)) (me boot : ℕ) (calls : List PortEvent) (place member : ℕ) (bytes : List ℕ)
-    → slice_get (handed_events (new_translator key names me boot) calls) place ≡ Some (Received (Peer member) bytes) → (bytes ≡ [] → ⊥)
-    → (event : PortEvent) × (slice_get calls place ≡ Some event) × IsTranslated key names me (take place calls) event member bytes
-place_law key names me boot calls place member bytes e some =
-    let h = handed_at (new_translator key names me boot) calls place (Received (Peer member) bytes) e in
-    (h.event, h.there, handed_law key names me boot (take place calls) h.event member bytes h.handed_is some)
+pub place_law : (key : List ℕ) (names : List (List ℕ)) (known : List ℕ) (me boot : ℕ) (calls : List PortEvent) (place member : ℕ) (bytes : List ℕ) → length known ≡ 10
+    → slice_get (handed_events (new_translator key names me boot known) calls) place ≡ Some (Received (Peer member) bytes) → (bytes ≡ [] → ⊥)
+    → (event : PortEvent) × (slice_get calls place ≡ Some event) × IsTranslated key names me known (take place calls) event member bytes
+place_law key names known me boot calls place member bytes len e some =
+    let h = handed_at (new_translator key names me boot known) calls place (Received (Peer member) bytes) e in
+    (h.event, h.there, handed_law key names known me boot (take place calls) h.event member bytes len h.handed_is some)
 
 -- ---- what the port below is offered
 
@@ -373,6 +367,6 @@ offers_over t (event ∷ calls) member bytes h = elim (has_parts (below_event t 
       }
 ]
 
-pub offers_law : (key : List ℕ) (names : List (List ℕ)) (me boot : ℕ) (calls : List PortEvent) (member : ℕ) (bytes : List ℕ)
-    → Has (below_events (new_translator key names me boot) calls) (Offered (Peer member) bytes) → IsOfferOf key names boot calls member bytes
-offers_law key names me boot calls member bytes h = offers_over (new_translator key names me boot) calls member bytes h
+pub offers_law : (key : List ℕ) (names : List (List ℕ)) (known : List ℕ) (me boot : ℕ) (calls : List PortEvent) (member : ℕ) (bytes : List ℕ)
+    → Has (below_events (new_translator key names me boot known) calls) (Offered (Peer member) bytes) → IsOfferOf key names boot calls member bytes
+offers_law key names known me boot calls member bytes h = offers_over (new_translator key names me boot known) calls member bytes h

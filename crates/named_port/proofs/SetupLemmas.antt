@@ -6,18 +6,19 @@ use Rattle.named_port.specs.Setup.{named_setup, naming_of}
 use Rattle.named_port.specs.Translator.{TranslatorRecord, after_event}
 use Rattle.named_port.proofs.RunLemmas.{keeps_event}
 
-abbrev naming : List ℕ → List (List ℕ) → ℕ → ℕ → Naming
-naming key names me boot = record { key = key; names = names; me = me; boot = boot }
+abbrev naming : List ℕ → List ℕ → List (List ℕ) → ℕ → ℕ → Naming
+naming key known names me boot = record { key = key; names = known ∷ names; me = me; boot = boot }
 
 -- no event changes what a translator translates by
 pub same_naming : (t : TranslatorRecord) (event : PortEvent) → naming_of (after_event t event) ≡ naming_of t
 same_naming t event =
     let k = keeps_event t event in
     let u = after_event t event in
-    ap (λ (x : List ℕ). naming x u.names u.me u.boot) k.key
-    ∙ ap (λ (x : List (List ℕ)). naming t.key x u.me u.boot) k.names
-    ∙ ap (λ (x : ℕ). naming t.key t.names x u.boot) k.me
-    ∙ ap (λ (x : ℕ). naming t.key t.names t.me x) k.boot
+    ap (λ (x : List ℕ). naming x u.known u.names u.me u.boot) k.key
+    ∙ ap (λ (x : List ℕ). naming t.key x u.names u.me u.boot) k.known
+    ∙ ap (λ (x : List (List ℕ)). naming t.key t.known x u.me u.boot) k.names
+    ∙ ap (λ (x : ℕ). naming t.key t.known t.names x u.boot) k.me
+    ∙ ap (λ (x : ℕ). naming t.key t.known t.names t.me x) k.boot
 
 abbrev setup_with : Naming → Option Setup → Option Setup
 setup_with one None = None

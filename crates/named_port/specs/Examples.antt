@@ -1,5 +1,5 @@
 -- Two nodes with their books, and their datagrams. The tags are by Python's hmac.
-use Rattle.std.specs.Prelude.{ℕ, true, false, List, [], ◌∷◌, ◌++◌, replicate, drop, Option, Some, None}
+use Rattle.std.specs.Prelude.{ℕ, true, false, List, [], ◌∷◌, ◌++◌, replicate, slice_set, drop, Option, Some, None}
 use Rattle.datagram_port.specs.Port.{PortEvent, Received}
 use Rattle.datagram_port.specs.Setup.{Setup}
 use Rattle.datagram_port.specs.declared.port.Sender.TheVariants.{Peer}
@@ -8,6 +8,7 @@ use Rattle.named_wire.specs.declared.head.Kind.{Kind}
 use Rattle.named_wire.specs.declared.head.Kind.TheVariants.{Floor}
 use Rattle.vote_wire.specs.Examples.{ask_body, eight_bytes}
 use Rattle.named_port.specs.Translator.{TranslatorRecord, new_translator}
+use Rattle.node_log.specs.Boots.{nobody_heard}
 use Rattle.node_log.specs.declared.gatekeeper.Older.{Older}
 
 -- a key of 32 zeros
@@ -28,15 +29,19 @@ names_of_2 = name_with 0xbb ∷ name_with 0xaa ∷ []
 
 -- node 1 in its boot 2, which has heard nobody
 abbrev pub node_1 : TranslatorRecord
-node_1 = new_translator zeros names_of_1 1 2
+node_1 = new_translator zeros names_of_1 1 2 nobody_heard
 
 -- node 2 in its boot 5, which has heard nobody
 abbrev pub node_2 : TranslatorRecord
-node_2 = new_translator zeros names_of_2 2 5
+node_2 = new_translator zeros names_of_2 2 5 nobody_heard
 
 -- node 2 after it heard node 1 in a boot, and node 3 in another one
 abbrev pub node_2_after : ℕ → ℕ → TranslatorRecord
 node_2_after one three = record node_2 { heard = 0 ∷ one ∷ 0 ∷ three ∷ replicate 6 0 }
+
+-- node 2 at its start, which knows a boot of node 3
+abbrev pub node_2_knowing : ℕ → TranslatorRecord
+node_2_knowing three = new_translator zeros names_of_2 2 5 (slice_set nobody_heard 3 three)
 
 -- the fields of a vote for the second proposal of boot 2 of a node, with a first and a last factor
 abbrev pub vote_of : ℕ → List ℕ → List ℕ → List ℕ

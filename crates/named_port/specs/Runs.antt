@@ -1,5 +1,5 @@
 -- The events of the port below in an execution, and the boots that they tell of members.
-use Rattle.std.specs.Prelude.{◌≡◌, ◌⊎◌, ℕ, ◌≤◌, ◌==◌, max, true, if◌then◌else◌, List, [], ◌∷◌, ◌++◌, drop, take, slice_get, Option, Some, None}
+use Rattle.std.specs.Prelude.{◌≡◌, ◌⊎◌, ℕ, ◌≤◌, ◌==◌, max, true, if◌then◌else◌, List, [], ◌∷◌, ◌++◌, drop, take, slice_get, slice_index, Option, Some, None}
 use Rattle.datagram_port.specs.Port.{PortEvent, Received, Quiet, Faulted, Offered}
 use Rattle.datagram_port.specs.declared.port.Sender.TheVariants.{Client, Peer}
 use Rattle.named_wire.specs.Datagram.{datagram_at}
@@ -37,7 +37,8 @@ after_events translator (event ∷ events) = after_events (after_event translato
 
 -- a translator as it was at its start
 abbrev pub at_start : TranslatorRecord → TranslatorRecord
-at_start translator = new_translator translator.key translator.names translator.me translator.boot
+at_start translator =
+    new_translator translator.key translator.names translator.me translator.boot translator.known
 
 -- the events of the node's port: what is handed in for each event of the port below, and the node's offers
 abbrev pub handed_events : TranslatorRecord → List PortEvent → List PortEvent
@@ -80,10 +81,11 @@ pub record IsOfferOf (key : List ℕ) (names : List (List ℕ)) (boot : ℕ) (ca
   pub bytes_are : named_at key names boot offer ≡ Some bytes
 
 -- Bytes that were handed to the node `me` as a datagram of a member: the translation of an event. The event is a
--- datagram from the member, under the key, that the member sent to the node in a boot. No earlier event told a greater
--- boot of the member. The book has the datagram's name, and the bytes have its number and the same fields.
-pub record IsTranslated (key : List ℕ) (names : List (List ℕ)) (me : ℕ) (before : List PortEvent) (event : PortEvent)
-    (member : ℕ) (bytes : List ℕ) : Type 0 where
+-- datagram from the member, under the key, that the member sent to the node in a boot. No greater boot of the member
+-- was known at the start, and no earlier event told one. The book has the datagram's name, and the bytes have its
+-- number and the same fields.
+pub record IsTranslated (key : List ℕ) (names : List (List ℕ)) (me : ℕ) (known : List ℕ) (before : List PortEvent)
+    (event : PortEvent) (member : ℕ) (bytes : List ℕ) : Type 0 where
   pub named : List ℕ
   pub event_is : event ≡ Received (Peer member) named
   pub head : Head
@@ -91,6 +93,7 @@ pub record IsTranslated (key : List ℕ) (names : List (List ℕ)) (me : ℕ) (b
   pub reads : datagram_at key named ≡ Some (head, body)
   pub from_is : head.from ≡ member
   pub to_is : head.to ≡ me
+  pub known_is : slice_index known member ≤ head.boot
   pub boot_is : greatest_boot key me member before ≤ head.boot
   pub one_token : is_of_one_token head.kind ≡ true
   pub number : ℕ

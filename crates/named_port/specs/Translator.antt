@@ -1,5 +1,5 @@
 -- The translation of members' datagrams, the boots that a member was heard in, and the members that differ.
-use Rattle.std.specs.Prelude.{ℕ, ◌&&◌, Bool, true, not, nat_lt, ◌==◌, if◌then◌else◌, List, [], ◌∷◌, length, Option, Some, None, is_none, slice_index, slice_set, replicate}
+use Rattle.std.specs.Prelude.{ℕ, ◌&&◌, Bool, true, not, nat_lt, ◌==◌, if◌then◌else◌, List, [], ◌∷◌, length, Option, Some, None, is_none, slice_index, slice_set}
 use Rattle.datagram_port.specs.Port.{PortEvent, Received, Quiet, Faulted, Offered}
 use Rattle.datagram_port.specs.declared.port.Sender.{Sender}
 use Rattle.datagram_port.specs.declared.port.Sender.TheVariants.{Client, Peer}
@@ -9,27 +9,29 @@ use Rattle.named_port.specs.Wire.{is_of_one_token, named_at, numbered_of}
 use Rattle.node_log.specs.Differing.{nobody}
 use Rattle.node_log.specs.declared.gatekeeper.Older.{Older}
 
--- A translator of a node: the cluster's key, the names of its book, its number and boot, the greatest boot of each
--- member that it heard, from member 0 to 9, the last dropped datagram of an older boot, and whether each member
--- differs, from 0 to 9.
+-- A translator of a node: the cluster's key, the names of its book, its number and boot, the boots of the members that
+-- it knew at its start, the greatest boot of each that it knew or heard, from member 0 to 9, the last dropped datagram
+-- of an older boot, and whether each member differs, from 0 to 9.
 pub record TranslatorRecord : Type 0 where
   pub key : List ℕ
   pub names : List (List ℕ)
   pub me : ℕ
   pub boot : ℕ
+  pub known : List ℕ
   pub heard : List ℕ
   pub older : Option Older
   pub differing : List Bool
 
--- a translator that has heard nobody
-abbrev pub new_translator : List ℕ → List (List ℕ) → ℕ → ℕ → TranslatorRecord
-new_translator key names me boot =
+-- a translator at its start, which knows boots of the members
+abbrev pub new_translator : List ℕ → List (List ℕ) → ℕ → ℕ → List ℕ → TranslatorRecord
+new_translator key names me boot known =
     record {
       key = key;
       names = names;
       me = me;
       boot = boot;
-      heard = replicate 10 0;
+      known = known;
+      heard = known;
       older = None;
       differing = nobody;
     }

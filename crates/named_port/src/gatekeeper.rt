@@ -13,6 +13,8 @@ impl<P: Gatekeeper + Drop> Gatekeeper for NamedPort<'_, P> {
 
     ghost gone_back = { λ named. P.gone_back named.port };
 
+    ghost heard = { λ named. named.translator.heard };
+
     ghost differing = { λ named. named.translator.differing };
 
     ghost aside = { λ named. P.aside named.port };
@@ -35,6 +37,10 @@ impl<P: Gatekeeper + Drop> Gatekeeper for NamedPort<'_, P> {
 
     fn gone_back(&self) -> [bool; PLACES] {
         self.port.gone_back()
+    }
+
+    fn heard(&self) -> [u64; PLACES] {
+        NamedPort::heard(self)
     }
 
     fn take_differing(&mut self) -> [bool; PLACES] {

@@ -1,4 +1,4 @@
-ghost use Rattle.std.specs.Prelude.{◌≡◌, ◌<◌, ◌≤◌, ◌^◌, ◌∷◌, ◌++◌, [], ℕ, List, Some, length, slice_get, slice_index, take};
+ghost use Rattle.std.specs.Prelude.{◌≡◌, ◌<◌, ◌≤◌, ◌^◌, ◌∷◌, ◌++◌, [], ℕ, List, Some, length, max, slice_get, slice_index, take};
 ghost use Rattle.datagram_port.specs.Port.{Offered, PortEvent, Received};
 ghost use Rattle.datagram_port.specs.declared.port.Sender.TheVariants.{Peer};
 ghost use Rattle.named_wire.specs.Bytes.{AreBytes};
@@ -45,31 +45,36 @@ pub fn packed_fields_tell()
         unpacked kind from to short ≡ Some fields → packed kind from to fields ≡ Some short }
 {}
 
-/// Boots: a translator's boot of a member is the greatest one that the member's datagrams told it, in every execution.
+/// Boots: a translator's boot of a member is the greatest one that it knew at its start or that the member's datagrams
+/// told it, in every execution.
 pub fn boots_are_the_greatest()
-    ensures { (key : List ℕ) (names : List (List ℕ)) (me boot member : ℕ) (events : List PortEvent) →
-        slice_index (after_events (new_translator key names me boot) events).heard member
-        ≡ greatest_boot key me member events }
+    ensures { (key : List ℕ) (names : List (List ℕ)) (known : List ℕ) (me boot member : ℕ)
+        (events : List PortEvent) → length known ≡ 10 →
+        slice_index (after_events (new_translator key names me boot known) events).heard member
+        ≡ max (slice_index known member) (greatest_boot key me member events) }
 {}
 
 /// Translations: each datagram of a member that is handed in with bytes is the translation of one that came from it.
 ///
-/// The datagram is under the key, and from the member to the node. No earlier event told a greater boot of the member.
+/// The datagram is under the key, and from the member to the node. No greater boot of the member was known at the
+/// start, and no earlier event told one.
 pub fn what_is_handed_in_came()
-    ensures next { (key bytes : List ℕ) (names : List (List ℕ)) (me boot member : ℕ) (before : List PortEvent)
-        (event : PortEvent) →
-        handed_in (after_events (new_translator key names me boot) before) event ≡ Received (Peer member) bytes →
-        (bytes ≡ [] → ⊥) → IsTranslated key names me before event member bytes }
-    ensures at_each_place { (key bytes : List ℕ) (names : List (List ℕ)) (me boot place member : ℕ)
-        (calls : List PortEvent) →
-        slice_get (handed_events (new_translator key names me boot) calls) place ≡ Some (Received (Peer member) bytes) →
-        (bytes ≡ [] → ⊥) → (event : PortEvent) × (slice_get calls place ≡ Some event)
-        × IsTranslated key names me (take place calls) event member bytes }
+    ensures next { (key bytes known : List ℕ) (names : List (List ℕ)) (me boot member : ℕ)
+        (before : List PortEvent) (event : PortEvent) → length known ≡ 10 →
+        handed_in (after_events (new_translator key names me boot known) before) event
+        ≡ Received (Peer member) bytes → (bytes ≡ [] → ⊥) →
+        IsTranslated key names me known before event member bytes }
+    ensures at_each_place { (key bytes known : List ℕ) (names : List (List ℕ)) (me boot place member : ℕ)
+        (calls : List PortEvent) → length known ≡ 10 →
+        slice_get (handed_events (new_translator key names me boot known) calls) place
+        ≡ Some (Received (Peer member) bytes) → (bytes ≡ [] → ⊥) →
+        (event : PortEvent) × (slice_get calls place ≡ Some event)
+        × IsTranslated key names me known (take place calls) event member bytes }
 {}
 
 /// Offers: each datagram for a member that the port below is offered is the translation of one that the node offered.
 pub fn what_is_offered_is_the_nodes()
-    ensures { (key bytes : List ℕ) (names : List (List ℕ)) (me boot member : ℕ) (calls : List PortEvent) →
-        Has (below_events (new_translator key names me boot) calls) (Offered (Peer member) bytes) →
+    ensures { (key bytes known : List ℕ) (names : List (List ℕ)) (me boot member : ℕ) (calls : List PortEvent) →
+        Has (below_events (new_translator key names me boot known) calls) (Offered (Peer member) bytes) →
         IsOfferOf key names boot calls member bytes }
 {}

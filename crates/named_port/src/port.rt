@@ -74,16 +74,24 @@ fn offer<P: Port>(port: &mut P, translator: &Translator<'_>, to: Sender, bytes: 
 
 impl<'k, P: Port + Drop> NamedPort<'k, P> {
     /// Returns a port over `port`, which has received and offered nothing yet, for the node `me` in `boot` with the
-    /// names of its book.
-    pub fn new(port: P, key: &'k ClusterKey, names: &'k Names, me: u8, boot: u64) -> Self
+    /// names of its book. `known` has the greatest boot in which each member was heard before, from member 0 to 9, or
+    /// 0.
+    pub fn new(
+        port: P,
+        key: &'k ClusterKey,
+        names: &'k Names,
+        me: u8,
+        boot: u64,
+        known: [u64; PLACES],
+    ) -> Self
         requires { IfSome (P.events port) (λ events. events ≡ []) }
         ensures port { result.port ≡ port }
-        ensures translator { result.translator ≡ new_translator key.now names.now me boot }
+        ensures translator { result.translator ≡ new_translator key.now names.now me boot known }
         ensures calls { result.calls.events ≡ [] }
     {
         NamedPort {
             port,
-            translator: Translator::new(key, names, me, boot),
+            translator: Translator::new(key, names, me, boot, known),
             calls: Record::new(),
         }
     }
@@ -107,8 +115,8 @@ impl<'k, P: Port + Drop> NamedPort<'k, P> {
         self.translator.take_differing()
     }
 
-    /// Returns the greatest boot in which each member was heard, from member 0 to 9, or 0.
-    pub fn heard(&self) -> [u64; 10]
+    /// Returns the greatest boot in which each member was heard or was known at the start, from member 0 to 9, or 0.
+    pub fn heard(&self) -> [u64; PLACES]
         ensures { result ≡ self.now.translator.heard }
     {
         self.translator.heard()

@@ -70,7 +70,7 @@ fn offered(alloc: Global, boot: u64, token: u32) -> Result<Vec<u8>, Fail> {
 fn offered_for(alloc: Global, boot: u64, message: &Message) -> Result<Vec<u8>, Fail> {
     let key = key()?;
     let names = names(alloc, ROWS_OF_1)?;
-    let mut port = NamedPort::new(ListPort::new(alloc, &[]), &key, &names, 1, boot);
+    let mut port = NamedPort::new(ListPort::new(alloc, &[]), &key, &names, 1, boot, UNHEARD);
     let bytes = write_message(&ClusterKey::bare(), 1, 2, message);
     port.send(Sender::Peer(2), &bytes);
     let below = port.into_inner();
@@ -102,6 +102,9 @@ fn len_of(received: Received) -> Result<usize, Fail>
     }
 }
 
+/// No member was heard.
+const UNHEARD: [u64; 10] = [0; 10];
+
 /// Member 1 alone differs.
 fn only_1() -> [bool; 10] {
     let mut differing = [false; 10];
@@ -117,7 +120,14 @@ fn other_orders_are_understood(rt: HostRuntime) -> Result<(), Fail> {
     assert!(rt; sent.len() == 71);
     let comings = [from_1(&sent)];
     let names = names(rt.alloc(), ROWS_OF_2)?;
-    let mut port = NamedPort::new(ListPort::new(rt.alloc(), &comings), &key, &names, 2, 9);
+    let mut port = NamedPort::new(
+        ListPort::new(rt.alloc(), &comings),
+        &key,
+        &names,
+        2,
+        9,
+        UNHEARD,
+    );
     let mut buffer = [0; 512];
     let len = len_of(port.receive(&mut buffer))?;
     assert!(rt; read_message(&ClusterKey::bare(), &buffer[..len]) == Some((1, 2, ask(0)?)));
@@ -134,7 +144,14 @@ fn spans_are_kept(rt: HostRuntime) -> Result<(), Fail> {
     assert!(rt; sent.len() == 71 && sent[54] == 0);
     let comings = [from_1(&sent)];
     let names = names(rt.alloc(), ROWS_OF_1)?;
-    let mut port = NamedPort::new(ListPort::new(rt.alloc(), &comings), &key, &names, 2, 9);
+    let mut port = NamedPort::new(
+        ListPort::new(rt.alloc(), &comings),
+        &key,
+        &names,
+        2,
+        9,
+        UNHEARD,
+    );
     let mut buffer = [0; 512];
     let len = len_of(port.receive(&mut buffer))?;
     assert!(rt; read_message(&ClusterKey::bare(), &buffer[..len]) == Some((1, 2, grant(255)?)));
@@ -150,7 +167,14 @@ fn strange_names_and_older_boots(rt: HostRuntime) -> Result<(), Fail> {
     let of_boot_5 = offered(rt.alloc(), 5, 0)?;
     let comings = [from_1(&of_bob), from_1(&of_boot_4), from_1(&of_boot_5)];
     let names = names(rt.alloc(), ROWS_OF_2)?;
-    let mut port = NamedPort::new(ListPort::new(rt.alloc(), &comings), &key, &names, 2, 9);
+    let mut port = NamedPort::new(
+        ListPort::new(rt.alloc(), &comings),
+        &key,
+        &names,
+        2,
+        9,
+        UNHEARD,
+    );
     let mut buffer = [0; 512];
     assert!(rt; len_of(port.receive(&mut buffer))? == 0);
     assert!(rt; port.take_differing() == only_1());
@@ -160,6 +184,33 @@ fn strange_names_and_older_boots(rt: HostRuntime) -> Result<(), Fail> {
     assert!(rt; port.take_older().is_none());
     assert!(rt; len_of(port.receive(&mut buffer))? == 59);
     assert!(rt; port.receive(&mut buffer) == Received::Quiet);
+    Ok(())
+}
+
+/// A datagram of an older boot than the one that the node knows at its start is handed in without bytes.
+#[test]
+fn boots_known_at_the_start(rt: HostRuntime) -> Result<(), Fail> {
+    let key = key()?;
+    let of_boot_4 = offered(rt.alloc(), 4, 0)?;
+    let of_boot_5 = offered(rt.alloc(), 5, 0)?;
+    let comings = [from_1(&of_boot_4), from_1(&of_boot_5)];
+    let names = names(rt.alloc(), ROWS_OF_2)?;
+    let mut known = UNHEARD;
+    known[1] = 5;
+    let mut port = NamedPort::new(
+        ListPort::new(rt.alloc(), &comings),
+        &key,
+        &names,
+        2,
+        9,
+        known,
+    );
+    let mut buffer = [0; 512];
+    assert!(rt; port.heard() == known);
+    assert!(rt; len_of(port.receive(&mut buffer))? == 0);
+    assert!(rt; port.take_older() == Some(Older { member: 1, boot: 4 }));
+    assert!(rt; len_of(port.receive(&mut buffer))? == 59);
+    assert!(rt; port.heard() == known);
     Ok(())
 }
 
@@ -174,7 +225,14 @@ fn unread_datagrams_differ(rt: HostRuntime) -> Result<(), Fail> {
     let named = offered(rt.alloc(), 5, 0)?;
     let names = names(rt.alloc(), ROWS_OF_2)?;
     let comings = [from_1(&numbered), from_1(&bare), from_1(&[])];
-    let mut port = NamedPort::new(ListPort::new(rt.alloc(), &comings), &key, &names, 2, 9);
+    let mut port = NamedPort::new(
+        ListPort::new(rt.alloc(), &comings),
+        &key,
+        &names,
+        2,
+        9,
+        UNHEARD,
+    );
     let mut buffer = [0; 512];
     assert!(rt; len_of(port.receive(&mut buffer))? == 0);
     assert!(rt; port.take_differing() == only_1());
@@ -183,7 +241,14 @@ fn unread_datagrams_differ(rt: HostRuntime) -> Result<(), Fail> {
     assert!(rt; len_of(port.receive(&mut buffer))? == 0);
     assert!(rt; port.take_differing() == [false; 10]);
     let comings = [from_1(&named)];
-    let mut port = NamedPort::new(ListPort::new(rt.alloc(), &comings), &other, &names, 2, 9);
+    let mut port = NamedPort::new(
+        ListPort::new(rt.alloc(), &comings),
+        &other,
+        &names,
+        2,
+        9,
+        UNHEARD,
+    );
     assert!(rt; len_of(port.receive(&mut buffer))? == 0);
     assert!(rt; port.take_differing() == only_1());
     Ok(())
@@ -199,7 +264,14 @@ fn clients_pass(rt: HostRuntime) -> Result<(), Fail> {
         bytes: b"CHECK k1 ann 755224 -",
     };
     let comings = [line];
-    let mut port = NamedPort::new(ListPort::new(rt.alloc(), &comings), &key, &names, 2, 9);
+    let mut port = NamedPort::new(
+        ListPort::new(rt.alloc(), &comings),
+        &key,
+        &names,
+        2,
+        9,
+        UNHEARD,
+    );
     let mut buffer = [0; 512];
     let received = Received::Datagram {
         sender: Sender::Client(7),

@@ -21,6 +21,7 @@ pub(crate) struct Translator<'k> {
     names: &'k Names,
     me: u8,
     boot: u64,
+    known: [u64; PLACES],
     heard: [u64; PLACES],
     older: Option<Older>,
     differing: [bool; PLACES],
@@ -37,6 +38,7 @@ impl<'k> Model for Translator<'k> {
       names = translator.names.now;
       me = translator.me;
       boot = translator.boot;
+      known = translator.known;
       heard = translator.heard;
       older = translator.older;
       differing = translator.differing;
@@ -44,16 +46,23 @@ impl<'k> Model for Translator<'k> {
 }
 
 impl<'k> Translator<'k> {
-    /// Returns a translator for the node `me` in `boot`, with the names of the node's book. It has heard no member.
-    pub(crate) fn new(key: &'k ClusterKey, names: &'k Names, me: u8, boot: u64) -> Self
-        ensures { result ≡ new_translator key.now names.now me boot }
+    /// Returns a translator for the node `me` in `boot`, with the names of the node's book. It knows boots of members.
+    pub(crate) fn new(
+        key: &'k ClusterKey,
+        names: &'k Names,
+        me: u8,
+        boot: u64,
+        known: [u64; PLACES],
+    ) -> Self
+        ensures { result ≡ new_translator key.now names.now me boot known }
     {
         Translator {
             key,
             names,
             me,
             boot,
-            heard: [0; PLACES],
+            known,
+            heard: known,
             older: None,
             differing: [false; PLACES],
         }
@@ -88,8 +97,8 @@ impl<'k> Translator<'k> {
         }
     }
 
-    /// Returns the greatest boot of each member that the translator heard, from member 0 to 9. A member that it didn't
-    /// hear has 0.
+    /// Returns the greatest boot of each member that the translator knew at its start or heard, from member 0 to 9, or
+    /// 0.
     pub(crate) fn heard(&self) -> [u64; PLACES]
         ensures { result ≡ self.now.heard }
     {

@@ -4,8 +4,9 @@ ghost use Rattle.datagram_port.specs.declared.port.Sender.TheVariants.{Client, P
 ghost use Rattle.named_wire.specs.declared.head.Head.{Head};
 ghost use Rattle.named_wire.specs.declared.head.Kind.TheVariants.{Ask, Deny, Floor, Floors, Grant};
 ghost use Rattle.vote_wire.specs.Examples.{ask_body, eight_bytes};
+ghost use Rattle.node_log.specs.Boots.{nobody_heard};
 ghost use Rattle.node_log.specs.Examples.{only};
-ghost use Rattle.named_port.specs.Examples.{bare_setup, floor_6, floor_7, floor_from, floor_head, from_3, name_with, named_ask, names_of_1, names_of_2, node_1, node_2, node_2_after, numbered_ask, older, packed_ask, packed_vote_of, renumbered_ask, short_names, vote_of, zeros};
+ghost use Rattle.named_port.specs.Examples.{bare_setup, floor_6, floor_7, floor_from, floor_head, from_3, name_with, named_ask, names_of_1, names_of_2, node_1, node_2, node_2_after, node_2_knowing, numbered_ask, older, packed_ask, packed_vote_of, renumbered_ask, short_names, vote_of, zeros};
 ghost use Rattle.named_port.specs.Names.{number_of};
 ghost use Rattle.named_port.specs.Port.{Polls, Receives};
 ghost use Rattle.named_port.specs.Runs.{Has, IsAfter, after_events, at_start, below_events, boot_told, greatest_boot, handed_events};
@@ -71,7 +72,7 @@ pub fn fields_are_worked()
         ≡ Some 18446744073709551615 ∷ None ∷ [] }
 {}
 
-/// Worked cases. The boots of members 1 and 3 at node 2.
+/// Worked cases. The boots of members 1 and 3 at node 2, which knows none of them at its start, or one of member 3.
 pub fn boots_are_worked()
     ensures first { after_read node_2 (floor_from 3 7) ≡ node_2_after 0 7 }
     ensures equal { after_read (node_2_after 0 7) (floor_from 3 7) ≡ node_2_after 0 7 }
@@ -86,6 +87,14 @@ pub fn boots_are_worked()
     ensures other_is_taken { translated (node_2_after 0 7) (floor_from 1 6) ≡ translated node_2 (floor_from 1 6) }
     ensures older_is_dropped { translated (node_2_after 0 7) (floor_from 3 6) ≡ None }
     ensures unread_is_dropped { translated (node_2_after 0 7) None ≡ None }
+
+    ensures known { node_2_knowing 7 ≡ record (node_2_after 0 7) { known = slice_set nobody_heard 3 7 } }
+    ensures known_is_taken { translated (node_2_knowing 7) (floor_from 3 7) ≡ translated node_2 (floor_from 3 7) }
+    ensures known_is_kept { after_read (node_2_knowing 7) (floor_from 1 6)
+        ≡ record (node_2_after 6 7) { known = slice_set nobody_heard 3 7 } }
+    ensures older_than_known { translated (node_2_knowing 7) (floor_from 3 6) ≡ None }
+    ensures older_than_known_is_noted { after_read (node_2_knowing 7) (floor_from 3 6)
+        ≡ record (node_2_knowing 7) { older = older 3 6 } }
 
     ensures sent { between 3 2 (floor_from 3 7) ≡ floor_from 3 7 }
     ensures sent_by_another { between 1 2 (floor_from 3 7) ≡ None }
@@ -160,6 +169,7 @@ pub fn calls_are_worked()
         ∷ Received (Client 1) [] ∷ Offered (Client 1) [] ∷ [])
         ≡ Offered (Peer 2) named_ask ∷ Quiet ∷ Faulted ∷ Received (Client 1) [] ∷ Offered (Client 1) [] ∷ [] }
     ensures start { at_start (record (node_2_after 0 7) { older = older 3 6; differing = only 1 }) ≡ node_2 }
+    ensures knowing_start { at_start (record (node_2_knowing 7) { heard = replicate 10 8 }) ≡ node_2_knowing 7 }
 {}
 
 /// Counterexamples: each promise of a port after calls fails for a minimal one.
@@ -169,6 +179,7 @@ pub fn calls_can_be_broken()
     ensures unrecorded { IsAfter (Some []) node_2 (Quiet ∷ []) → ⊥ }
     ensures second_unrecorded { IsAfter (Some (Quiet ∷ [])) node_2 (Quiet ∷ Faulted ∷ []) → ⊥ }
     ensures unheard { IsAfter None (node_2_after 0 7) [] → ⊥ }
+    ensures known { IsAfter None (node_2_knowing 7) [] }
     ensures has { Has (Quiet ∷ Faulted ∷ []) Faulted }
     ensures has_not { Has (Quiet ∷ []) Faulted → ⊥ }
 {}
@@ -190,35 +201,38 @@ pub fn receives_can_be_broken()
 
 /// Worked cases. The setup of a port by names, over a port without names, over one with names, and over none.
 pub fn setups_are_worked()
-    ensures names { named_setup (new_translator (7 ∷ []) short_names 3 5) (Some bare_setup)
+    ensures names { named_setup (new_translator (7 ∷ []) short_names 3 5 nobody_heard) (Some bare_setup)
         ≡ Some (record bare_setup {
-          namings = record { key = 7 ∷ []; names = (1 ∷ []) ∷ (2 ∷ []) ∷ []; me = 3; boot = 5 } ∷ [];
+          namings = record { key = 7 ∷ []; names = nobody_heard ∷ (1 ∷ []) ∷ (2 ∷ []) ∷ []; me = 3; boot = 5 } ∷ [];
         }) }
-    ensures over_names { named_setup (new_translator [] [] 4 6)
-        (named_setup (new_translator (7 ∷ []) short_names 3 5) (Some bare_setup))
+    ensures over_names { named_setup (new_translator [] [] 4 6 nobody_heard)
+        (named_setup (new_translator (7 ∷ []) short_names 3 5 nobody_heard) (Some bare_setup))
         ≡ Some (record bare_setup {
-          namings = record { key = []; names = []; me = 4; boot = 6 }
-              ∷ record { key = 7 ∷ []; names = short_names; me = 3; boot = 5 } ∷ [];
+          namings = record { key = []; names = nobody_heard ∷ []; me = 4; boot = 6 }
+              ∷ record { key = 7 ∷ []; names = nobody_heard ∷ short_names; me = 3; boot = 5 } ∷ [];
         }) }
-    ensures over_none { named_setup (new_translator (7 ∷ []) short_names 3 5) None ≡ None }
+    ensures over_none { named_setup (new_translator (7 ∷ []) short_names 3 5 nobody_heard) None ≡ None }
     ensures heard { named_setup (record (node_2_after 3 7) { older = older 3 6; differing = only 1 }) (Some bare_setup)
         ≡ named_setup node_2 (Some bare_setup) }
 {}
 
-/// Counterexamples: the setup of a port by names is another one for another key, other names, another node or boot.
+/// Counterexamples: the setup of a port by names is another one for another key, other names, another node or boot, or
+/// other boots that it knew at its start.
 pub fn setups_can_be_broken()
-    ensures another_key { named_setup (new_translator (7 ∷ []) short_names 3 5) (Some bare_setup)
-        ≡ named_setup (new_translator (8 ∷ []) short_names 3 5) (Some bare_setup) → ⊥ }
-    ensures another_name { named_setup (new_translator (7 ∷ []) short_names 3 5) (Some bare_setup)
-        ≡ named_setup (new_translator (7 ∷ []) ((1 ∷ []) ∷ (3 ∷ []) ∷ []) 3 5) (Some bare_setup) → ⊥ }
-    ensures another_order { named_setup (new_translator (7 ∷ []) short_names 3 5) (Some bare_setup)
-        ≡ named_setup (new_translator (7 ∷ []) ((2 ∷ []) ∷ (1 ∷ []) ∷ []) 3 5) (Some bare_setup) → ⊥ }
-    ensures fewer_names { named_setup (new_translator (7 ∷ []) short_names 3 5) (Some bare_setup)
-        ≡ named_setup (new_translator (7 ∷ []) ((1 ∷ []) ∷ []) 3 5) (Some bare_setup) → ⊥ }
-    ensures another_node { named_setup (new_translator (7 ∷ []) short_names 3 5) (Some bare_setup)
-        ≡ named_setup (new_translator (7 ∷ []) short_names 4 5) (Some bare_setup) → ⊥ }
-    ensures another_boot { named_setup (new_translator (7 ∷ []) short_names 3 5) (Some bare_setup)
-        ≡ named_setup (new_translator (7 ∷ []) short_names 3 6) (Some bare_setup) → ⊥ }
-    ensures no_names { named_setup (new_translator (7 ∷ []) short_names 3 5) (Some bare_setup)
+    ensures another_key { named_setup (new_translator (7 ∷ []) short_names 3 5 nobody_heard) (Some bare_setup)
+        ≡ named_setup (new_translator (8 ∷ []) short_names 3 5 nobody_heard) (Some bare_setup) → ⊥ }
+    ensures another_name { named_setup (new_translator (7 ∷ []) short_names 3 5 nobody_heard) (Some bare_setup)
+        ≡ named_setup (new_translator (7 ∷ []) ((1 ∷ []) ∷ (3 ∷ []) ∷ []) 3 5 nobody_heard) (Some bare_setup) → ⊥ }
+    ensures another_order { named_setup (new_translator (7 ∷ []) short_names 3 5 nobody_heard) (Some bare_setup)
+        ≡ named_setup (new_translator (7 ∷ []) ((2 ∷ []) ∷ (1 ∷ []) ∷ []) 3 5 nobody_heard) (Some bare_setup) → ⊥ }
+    ensures fewer_names { named_setup (new_translator (7 ∷ []) short_names 3 5 nobody_heard) (Some bare_setup)
+        ≡ named_setup (new_translator (7 ∷ []) ((1 ∷ []) ∷ []) 3 5 nobody_heard) (Some bare_setup) → ⊥ }
+    ensures another_node { named_setup (new_translator (7 ∷ []) short_names 3 5 nobody_heard) (Some bare_setup)
+        ≡ named_setup (new_translator (7 ∷ []) short_names 4 5 nobody_heard) (Some bare_setup) → ⊥ }
+    ensures another_boot { named_setup (new_translator (7 ∷ []) short_names 3 5 nobody_heard) (Some bare_setup)
+        ≡ named_setup (new_translator (7 ∷ []) short_names 3 6 nobody_heard) (Some bare_setup) → ⊥ }
+    ensures another_start { named_setup (new_translator (7 ∷ []) short_names 3 5 (0 ∷ 6 ∷ [])) (Some bare_setup)
+        ≡ named_setup (new_translator (7 ∷ []) short_names 3 5 (0 ∷ 7 ∷ [])) (Some bare_setup) → ⊥ }
+    ensures no_names { named_setup (new_translator (7 ∷ []) short_names 3 5 nobody_heard) (Some bare_setup)
         ≡ Some bare_setup → ⊥ }
 {}

@@ -1,5 +1,6 @@
 pub mod Asked
 pub mod BadLines
+pub mod Boots
 pub mod Differing
 pub mod Examples
 pub mod Log

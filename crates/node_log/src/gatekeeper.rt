@@ -35,6 +35,7 @@ pub const PLACES: usize = 10;
 pub trait Gatekeeper: Port {
     ghost use Rattle.std.specs.Prelude.{◌≡◌, ℕ, Bool, List, [], Option, None};
     ghost use Rattle.datagram_port.specs.Port.{Grows, PortEvent};
+    ghost use Rattle.node_log.specs.Boots.{nobody_heard};
     ghost use Rattle.node_log.specs.Differing.{nobody};
     ghost use Rattle.node_log.specs.declared.gatekeeper.Fell.{Fell as FellMember};
     ghost use Rattle.node_log.specs.declared.gatekeeper.Older.{Older as OlderDatagram};
@@ -53,6 +54,9 @@ pub trait Gatekeeper: Port {
 
     // The members that went back, from member 0 to 9. By default the port sees no floors.
     ghost gone_back: { Self → List Bool } = { λ _. nobody };
+
+    // The greatest boot in which each member was heard, from member 0 to 9, or 0. By default the port reads no boots.
+    ghost heard: { Self → List ℕ } = { λ _. nobody_heard };
 
     // Whether it passed over a datagram of each member that it can't read since they were last taken, from member 0 to
     // 9. By default the port reads everything.
@@ -102,6 +106,10 @@ pub trait Gatekeeper: Port {
     /// Returns which members went back to an old store, from member 0 to 9.
     fn gone_back(&self) -> [bool; PLACES]
         ensures { result ≡ gone_back self.now };
+
+    /// Returns the greatest boot in which each member was heard, from member 0 to 9, or 0.
+    fn heard(&self) -> [u64; PLACES]
+        ensures { result ≡ heard self.now };
 
     /// Returns whether a datagram that the port can't read came from each member since the last call, from member 0
     /// to 9.
@@ -187,6 +195,10 @@ impl Gatekeeper for ListPort<'_> {
         [false; PLACES]
     }
 
+    fn heard(&self) -> [u64; PLACES] {
+        [0; PLACES]
+    }
+
     fn take_differing(&mut self) -> [bool; PLACES] {
         [false; PLACES]
     }
@@ -215,6 +227,10 @@ impl<R: TimeSource + Drop> Gatekeeper for UdpPort<R> {
 
     fn gone_back(&self) -> [bool; PLACES] {
         [false; PLACES]
+    }
+
+    fn heard(&self) -> [u64; PLACES] {
+        [0; PLACES]
     }
 
     fn take_differing(&mut self) -> [bool; PLACES] {
@@ -256,6 +272,10 @@ impl<P: Port + Drop, C: Clock + Drop> Gatekeeper for SealedPort<P, C> {
 
     fn gone_back(&self) -> [bool; PLACES] {
         [false; PLACES]
+    }
+
+    fn heard(&self) -> [u64; PLACES] {
+        [0; PLACES]
     }
 
     fn take_differing(&mut self) -> [bool; PLACES] {

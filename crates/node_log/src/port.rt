@@ -234,6 +234,8 @@ impl<P: Gatekeeper + Drop, W: Write + Drop> Gatekeeper for LogPort<'_, P, W> {
 
     ghost gone_back = { λ logged. P.gone_back logged.port };
 
+    ghost heard = { λ logged. P.heard logged.port };
+
     ghost differing = { λ logged. P.differing logged.port };
 
     ghost aside = { λ logged. P.aside logged.port };
@@ -256,6 +258,10 @@ impl<P: Gatekeeper + Drop, W: Write + Drop> Gatekeeper for LogPort<'_, P, W> {
 
     fn gone_back(&self) -> [bool; PLACES] {
         self.port.gone_back()
+    }
+
+    fn heard(&self) -> [u64; PLACES] {
+        self.port.heard()
     }
 
     fn take_differing(&mut self) -> [bool; PLACES] {

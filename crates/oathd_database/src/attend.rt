@@ -86,13 +86,14 @@ impl<S: FloorStore> Attend<S> for Never {
     }
 }
 
-/// What is asked after each batch of a served node, the number of turns that were left at the last question, and the
-/// members that went back until the turns ended, from member 0 to 9.
+/// What is asked after each batch of a served node, the number of turns that were left at the last question, and of the
+/// members, from member 0 to 9, which went back until the turns ended, and the greatest boot in which each was heard.
 #[derive(Drop)]
 pub struct Attended<U> {
     pub attendant: U,
     pub left: u64,
     pub gone_back: [bool; PLACES],
+    pub heard: [u64; PLACES],
 }
 
 impl<U> Attended<U> {
@@ -104,6 +105,7 @@ impl<U> Attended<U> {
             attendant,
             left: 0,
             gone_back: [false; PLACES],
+            heard: [0; PLACES],
         }
     }
 }
@@ -120,6 +122,8 @@ impl<S: FloorStore, P: Gatekeeper, U: Attend<S>> Until<S, P> for Attended<U> {
         if ends {
             let gone_back = port.gone_back();
             self.gone_back = gone_back;
+            let heard = port.heard();
+            self.heard = heard;
         }
         ends
     }

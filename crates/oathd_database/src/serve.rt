@@ -5,6 +5,7 @@ ghost use Rattle.std.specs.Io.KnownBytes.{Appends};
 ghost use Rattle.oath_node.specs.TurnServing.{Serves};
 ghost use Rattle.oath_node.specs.declared.serve_fault.ServeFault.{ServeFault};
 ghost use Rattle.oath_node.specs.declared.turns.Served.{Served};
+ghost use Rattle.node_log.specs.Boots.{nobody_heard};
 ghost use Rattle.node_log.specs.Differing.{nobody};
 ghost use Rattle.oath_node.specs.Calls.{IsOpened};
 ghost use Rattle.oathd_database.specs.Commands.{EndsServing, HasServed, IsServed};
@@ -139,22 +140,24 @@ pub fn socket_at<N: Net>(net: &N, address: SocketAddrV4) -> Result<UdpSocket, Fa
     }
 }
 
-/// A UDP socket that is bound once, and kept while one node after another is served over it, with the members that went
-/// back meanwhile, from member 0 to 9.
+/// A UDP socket that is bound once, and kept while one node after another is served over it. With it is kept of the
+/// members, from member 0 to 9, which went back meanwhile, and the greatest boot in which each was heard, or 0.
 #[derive(Drop)]
 pub struct KeptSocket {
     socket: Option<UdpSocket>,
     pub gone_back: [bool; PLACES],
+    pub heard: [u64; PLACES],
 }
 
 impl KeptSocket {
-    /// Returns a socket that is not bound yet. No member went back.
+    /// Returns a socket that is not bound yet. No member went back, and none was heard.
     pub fn new() -> Self
-        ensures { result.gone_back ≡ nobody }
+        ensures { (result.gone_back ≡ nobody) × (result.heard ≡ nobody_heard) }
     {
         KeptSocket {
             socket: None,
             gone_back: [false; PLACES],
+            heard: [0; PLACES],
         }
     }
 
@@ -166,7 +169,7 @@ impl KeptSocket {
     /// - Returns `Socket` if there is no other handle, or its mode cannot be set.
     pub fn handle<N: Net>(&mut self, net: &N, address: SocketAddrV4) -> Result<UdpSocket, Fault>
         ensures fault { IfErr result (λ fault. fault ≡ Fault.Socket) }
-        ensures same { self.new.gone_back ≡ self.old.gone_back }
+        ensures same { (self.new.gone_back ≡ self.old.gone_back) × (self.new.heard ≡ self.old.heard) }
     {
         let socket = match self.socket.take() {
             Some(socket) => socket,

@@ -1,5 +1,5 @@
 -- What is the same under names is the same without them.
-use Rattle.std.proofs.Common.{◌≡◌, List, [], ◌∷◌, Option, Some, None, ap}
+use Rattle.std.proofs.Common.{◌≡◌, ℕ, List, [], ◌∷◌, Option, Some, None, ap}
 use Rattle.std.specs.Prelude.{IsSome}
 use Rattle.std.proofs.lemmas.Option.{same_Some}
 use Rattle.datagram_port.specs.Setup.{Naming, Setup, under_names}
@@ -19,11 +19,20 @@ abbrev others : List Naming → List Naming
 others [] = []
 others (naming ∷ namings) = namings
 
+-- the boots before the names
+abbrev boots_in : List (List ℕ) → List ℕ
+boots_in [] = []
+boots_in (boots ∷ names) = boots
+
+abbrev names_in : List (List ℕ) → List (List ℕ)
+names_in [] = []
+names_in (boots ∷ names) = names
+
 -- the translator of the nearest naming, at its start
 abbrev start_in : Setup → TranslatorRecord
 start_in setup =
     let naming = nearest setup.namings in
-    new_translator naming.key naming.names naming.me naming.boot
+    new_translator naming.key (names_in naming.names) naming.me naming.boot (boots_in naming.names)
 
 -- the setup of the port below
 abbrev below_in : Setup → Setup

@@ -231,11 +231,11 @@ served_unasked held acts old new setup start packer turns answers result h =
     }
 
 -- a translator of the same parts is the same
-pub start_is : (key all : List ℕ) (names others : List (List ℕ)) (me number boot : ℕ) → key ≡ all → names ≡ others → me ≡ number
-    → new_translator key names me boot ≡ new_translator all others number boot
-start_is key all names others me number boot one two three =
-    ap (λ (k : List ℕ). new_translator k names me boot) one ∙ ap (λ (n : List (List ℕ)). new_translator all n me boot) two
-    ∙ ap (λ (m : ℕ). new_translator all others m boot) three
+pub start_is : (key all : List ℕ) (names others : List (List ℕ)) (me number boot : ℕ) (known : List ℕ) → key ≡ all → names ≡ others → me ≡ number
+    → new_translator key names me boot known ≡ new_translator all others number boot known
+start_is key all names others me number boot known one two three =
+    ap (λ (k : List ℕ). new_translator k names me boot known) one ∙ ap (λ (n : List (List ℕ)). new_translator all n me boot known) two
+    ∙ ap (λ (m : ℕ). new_translator all others m boot known) three
 
 -- what a packer begins with
 abbrev pub start_of : List Bool → List ℕ → StartRecord
@@ -334,7 +334,7 @@ module _ {S : Type 0} (g : Ghosts S) (finds : sql.Held S → Type 0) (cluster : 
     ends_memory fault is =
         subst (λ (x : Fault). IfSome a (EndsServingNamed g finds cluster moment serving (Command x))) (sym is) (ends_before Memory (λ text h. tt))
 
-    module _ (found : SeatedRecord (SqlHeld S)) (counts : RowCounts) (first last : Hosted (SeatedRecord (SqlHeld S))) (boot : ℕ) (gone_back : List Bool) (starts : List ℕ)
+    module _ (found : SeatedRecord (SqlHeld S)) (counts : RowCounts) (first last : Hosted (SeatedRecord (SqlHeld S))) (boot : ℕ) (gone_back : List Bool) (known starts : List ℕ)
         (opened : HasOpenedNamed g finds cluster serving.settings moment serving.place.me book floors found counts)
         (in_boot : IsOpened (seated_held (sql_held g)) found first) (of_book : first.book ≡ book)
         (of_limits : first.limits ≡ serving.settings) (of_key : first.key ≡ bare) (of_place : first.voter.place ≡ serving.place)
@@ -343,7 +343,7 @@ module _ {S : Type 0} (g : Ghosts S) (finds : sql.Held S → Type 0) (cluster : 
       abbrev IsSo : (ℕ → Bool → Bool → Type 0) → Result Served Fault → Type 0
       IsSo answers result = IsServedNamed (seated_held (sql_held g)) (operator_acts (seated_held (sql_held g))) first last
           (setup_for serving.place.me serving.members.items serving.lines)
-          (new_translator (tag_key serving.key book) (names_of cluster.salt book) serving.place.me boot)
+          (new_translator (tag_key serving.key book) (names_of cluster.salt book) serving.place.me boot known)
           (new_packer (tag_key serving.key book) (names_of cluster.salt book) serving.place.me boot serving.place.n (start_of gone_back starts)) serving.turns
           (DeskAnswers answers) result
 
@@ -367,6 +367,7 @@ module _ {S : Type 0} (g : Ghosts S) (finds : sql.Held S → Type 0) (cluster : 
             floors = starts;
             floors_are = starts_are;
             gone_back = gone_back;
+            known = known;
             served_is = is;
           })
 

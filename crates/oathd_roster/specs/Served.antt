@@ -46,7 +46,7 @@ floors_in content = map (λ row. row.next) content.rows
 
 -- the translator at its start
 abbrev pub translator_of : Naming → TranslatorRecord
-translator_of naming = new_translator naming.key naming.names naming.node.me naming.node.boot
+translator_of naming = new_translator naming.key naming.names naming.node.me naming.node.boot naming.known
 
 -- the packer at its start
 abbrev pub packer_of : Naming → PackerRecord
@@ -125,6 +125,8 @@ module _ {S : Type 0} (g : Ghosts S) (finds : sql.Held S → Type 0) (cluster : 
         HasCleanDisk (sql.state g found.inner.conn) → floors ≡ floors_in (seated_held (sql_held g) found).content
     -- the members that went back in an earlier boot of the process, from member 0 to 9
     pub gone_back : List Bool
+    -- the greatest boot in which each was heard in an earlier boot of the process, or 0
+    pub known : List ℕ
     -- the port below is at the members of `serving`, and takes its lines
     pub served_is :
         let setup = setup_for serving.place.me serving.members.items serving.lines in
@@ -132,7 +134,7 @@ module _ {S : Type 0} (g : Ghosts S) (finds : sql.Held S → Type 0) (cluster : 
         let names = names_of cluster.salt import.book in
         let me = serving.place.me in
         let held = seated_held (sql_held g) in
-        IsServedNamed held (operator_acts held) first last setup (new_translator key names me boot)
+        IsServedNamed held (operator_acts held) first last setup (new_translator key names me boot known)
         (new_packer key names me boot serving.place.n (record { gone_back = gone_back; floors = floors }))
         serving.turns (DeskAnswers answers) result
 

@@ -112,7 +112,8 @@ fn serve_named<S: FloorStore, P: Gatekeeper + Drop, N: TimeSource, W: Write, U: 
     let Ok(telling) = FloorPort::new(alloc, joining, key, names, member, &naming.floors) else {
         return Err(Fault::Memory);
     };
-    let named = NamedPort::new(telling, key, names, member.me, member.boot);
+    let known = naming.known;
+    let named = NamedPort::new(telling, key, names, member.me, member.boot, known);
     serve_asked(
         node, named, member, is_asked, outside, turns, until, log, writer,
     )
@@ -164,7 +165,7 @@ fn serve_front<S: FloorStore, N: TimeSource, W: Write, U: Attend<S>>(
 
 /// Serves a node by names over a socket, as [`serve_front`] does, with a desk at which operators ask. The desk knows
 /// the tokens of `book`, and tells them what stays of the node and what `told` tells. Returns `until` too. `socket`
-/// keeps the members that went back.
+/// keeps which members went back, and in which boots they were heard.
 ///
 /// # Errors
 /// Returns the errors of [`serve_front`].
@@ -202,6 +203,8 @@ fn serve_desk<S: FloorStore, T: Told<S> + Drop, N: TimeSource, W: Write, U: Stop
         Ok(served) => {
             let gone_back = until.gone_back;
             socket.gone_back = gone_back;
+            let heard = until.heard;
+            socket.heard = heard;
             Ok((served, until.attendant.into_until()))
         }
         Err(fault) => Err(fault),
@@ -351,6 +354,7 @@ pub fn serve_named_store<
     let start = start_of(place, address, store.boot()?, book, &key);
     let floors = floors_of(alloc, &store)?;
     let gone_back = socket.gone_back;
+    let known = socket.heard;
     let naming = Naming {
         key,
         names,
@@ -360,6 +364,7 @@ pub fn serve_named_store<
             members: place.n(),
             gone_back,
         },
+        known,
         floors,
     };
     let bare = ClusterKey::bare();

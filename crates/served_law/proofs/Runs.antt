@@ -56,7 +56,7 @@ run_is_one_use g finds cluster moment serving answers result text names rows set
     let boot : (view_of g run.first.store).content.boot ≡ run.boot = ap (λ (c : Content). c.boot) made ∙ sym (run.boot_is sound.known.clean) in
     let member = seated_member g finds cluster moment serving answers result text names rows setting run sound.known sound.members in
     subst (λ (t : TranslatorRecord). IsUse (view_of g) serves setting me terms bare found (handed_events t run.served_is.serves.calls) left)
-    (translator_of_opened g finds cluster moment me serving run.import.book run.import.floors run.found run.counts names rows run.boot run.opened sound.known)
+    (translator_of_opened g finds cluster moment me serving run.import.book run.import.floors run.found run.counts names rows run.boot run.known run.opened sound.known)
     (run_is_use (sql_held g) setting me terms bare found run.found run.first run.last member run.in_boot (subst IsCount (sym boot) sound.boot) serves sound.stays left leaves)
 
 -- ---- the runs over one store

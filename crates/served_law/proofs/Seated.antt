@@ -209,12 +209,12 @@ module _ {S : Type 0} (g : Ghosts S) (finds : sql.Held S → Type 0) (cluster : 
       (book_of_opened limits moment node book floors store counts names rows opened its) of_book of_seats
 
   pub translator_of_opened : (moment node : ℕ) (serving : Serving) (book : List Credential) (floors : List ℕ) (store : SeatedRecord (SqlHeld S)) (counts : RowCounts)
-      (names : List (List ℕ)) (rows : List Entry) (boot : ℕ) → HasOpenedNamed g finds cluster serving.settings moment node book floors store counts
+      (names : List (List ℕ)) (rows : List Entry) (boot : ℕ) (known : List ℕ) → HasOpenedNamed g finds cluster serving.settings moment node book floors store counts
       → HasKnownRows g cluster.bond names store.inner rows
-      → new_translator (tag_key serving.key book) (names_of cluster.salt book) node boot ≡ first_translator names node (served_terms names cluster serving book) boot
-  translator_of_opened moment node serving book floors store counts names rows boot opened its =
+      → new_translator (tag_key serving.key book) (names_of cluster.salt book) node boot known ≡ first_translator names node (served_terms names cluster serving book) boot known
+  translator_of_opened moment node serving book floors store counts names rows boot known opened its =
       let is = book_of_opened serving.settings moment node book floors store counts names rows opened its in
-      ap (λ (own : List (List ℕ)). new_translator (tag_key serving.key book) own node boot)
+      ap (λ (own : List (List ℕ)). new_translator (tag_key serving.key book) own node boot known)
       (sym (own_names_are names (names_of cluster.salt book) its.are_names is.known))
 
   pub seated_member : (moment : ℕ) (serving : Serving) (answers : ℕ → Bool → Bool → Type 0) (result : Result Served Fault) (text : List ℕ)

@@ -46,7 +46,8 @@ module _ {S : Type 0} {g : Ghosts S} {finds : sql.Held S → Type 0} {cluster : 
   -- what the process received, and what it offered, by its own numbers
   abbrev pub entries_of : List (List ℕ) → List PortEvent
   entries_of names =
-      handed_events (first_translator names serving.place.me (terms_in names) run.boot) run.served_is.serves.calls
+      handed_events (first_translator names serving.place.me (terms_in names) run.boot run.known)
+      run.served_is.serves.calls
 
   -- What a history asks of the run. The rows of the store that it found are known, and its members are the setting's.
   -- The database's disk was clean at the start of each stretch of turns and at the end, and its boot is in range.

@@ -99,11 +99,11 @@ pub fn served_names_are_seated<S: Alter + Drop, D: Database<S>, U: Stop>()
 pub fn named_translators_are_first<S: Alter + Drop, D: Database<S>>()
     ensures { (cluster : NamedCluster) (moment node : ℕ) (serving : Serving) (book : List Credential)
         (floors : List ℕ) (store : SeatedRecord (SqlHeld S)) (counts : RowCounts) (names : List (List ℕ))
-        (rows : List Entry) (boot : ℕ)
+        (rows : List Entry) (boot : ℕ) (known : List ℕ)
         → HasOpenedNamed S.Store D.finds cluster serving.settings moment node book floors store counts
         → HasKnownRows S.Store cluster.bond names store.inner rows
-        → new_translator (tag_key serving.key book) (names_of cluster.salt book) node boot
-        ≡ first_translator names node (served_terms names cluster serving book) boot }
+        → new_translator (tag_key serving.key book) (names_of cluster.salt book) node boot known
+        ≡ first_translator names node (served_terms names cluster serving book) boot known }
 {}
 
 /// Runs: the whole run of a command that serves a node by names is one use of its store in a history.

@@ -1,5 +1,6 @@
 -- Each is asked for the datagram that was not offered, or for its range.
 use Rattle.std.proofs.Common.{◌≡◌, ℕ, zero, suc, [], ◌∷◌, Some, refl, ap, sym, subst, ◌∙◌, arith, get_or}
+use Rattle.std.specs.Prelude.{replicate}
 use Rattle.std.specs.List.{slice_get}
 use Rattle.std.proofs.lemmas.List.{length-replicate}
 use Rattle.std.proofs.lemmas.Option.{none-some, same_Some}
@@ -74,7 +75,7 @@ only one other was = there was.place was.is_there
 
 -- the translator of node 2 in its boot 1
 abbrev translator : TranslatorRecord
-translator = new_translator first_key (own_names user_names (1 ∷ 0 ∷ [])) 2 1
+translator = new_translator first_key (own_names user_names (1 ∷ 0 ∷ [])) 2 1 (replicate 10 0)
 
 is_of : IsTranslatorOf user_names 2 maple_first translator
 is_of = record { key = refl; names_are = refl; me = refl }
@@ -112,7 +113,7 @@ returns-clause-to_nobody c = record {
 
 -- the translator of node 1 in its boot 1
 abbrev translator_1 : TranslatorRecord
-translator_1 = new_translator first_key (own_names user_names (0 ∷ 1 ∷ [])) 1 1
+translator_1 = new_translator first_key (own_names user_names (0 ∷ 1 ∷ [])) 1 1 (replicate 10 0)
 
 is_of_1 : IsTranslatorOf user_names 1 silver_first translator_1
 is_of_1 = record { key = refl; names_are = refl; me = refl }

@@ -22,5 +22,8 @@ returns-clause-second_unrecorded c = λ h. (let e = h.below_is (Quiet ∷ []) re
 pub returns-clause-unheard : goal.returns-clause-unheard
 returns-clause-unheard c = λ h. (let e = ap (λ (l : List ℕ). slice_index l 3) h.heard_is in absurd (omega (arith, e)))
 
+pub returns-clause-known : goal.returns-clause-known
+returns-clause-known c = record { heard_is = refl; below_is = λ events e. absurd cc }
+
 pub returns-clause-has : goal.returns-clause-has
 returns-clause-has c = inr (inl refl)

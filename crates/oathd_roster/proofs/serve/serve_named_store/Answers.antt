@@ -25,11 +25,11 @@ returns-clause-served g c =
     let members = ap (λ (all : Vec SocketAddrV4). all.items) c.new-port.ensures.members in
     let answers = g.U.Stop.answers c.in_ok-served.served.1 in
     has_served g.S.Store g.D.Database.finds cluster c.args.moment serving (g.R.Read.remaining c.args.users) users.book users.floors.items
-    c.in_ok-named.ensures.users found counts c.in_ok-node.node c.serve_desk.new.node boot c.args.socket.now.gone_back c.in_ok-floors.floors.items opened c.in_ok-node.ensures.opened c.in_ok-node.ensures.book
+    c.in_ok-named.ensures.users found counts c.in_ok-node.node c.serve_desk.new.node boot c.args.socket.now.gone_back c.args.socket.now.heard c.in_ok-floors.floors.items opened c.in_ok-node.ensures.opened c.in_ok-node.ensures.book
     c.in_ok-node.ensures.limits (c.in_ok-node.ensures.key ∙ c.bare-bare.ensures) c.in_ok-node.ensures.place
     (λ clean. ap (λ (start : Start). start.boot) c.start_of-start.ensures ∙ ap (λ (b : ℕ). b + 1) (c.in_ok-boot.ensures.reads.ok clean))
     c.in_ok-floors.ensures.floors answers c.in_ok-served.served.0
-    (served_over serving.lines c.in_ok-front.front _ _ members c.in_ok-front.ensures.front c.me.ensures.value (start_is _ _ _ _ _ _ boot key names me)
+    (served_over serving.lines c.in_ok-front.front _ _ members c.in_ok-front.ensures.front c.me.ensures.value (start_is _ _ _ _ _ _ boot _ key names me)
     (packer_is _ _ _ _ _ _ boot _ _ _ key names me c.n.ensures.value) c.in_ok-served.ensures.served)
 
 pub returns-in_err-served-clause-fault : goal.returns-in_err-served-clause-fault
@@ -52,11 +52,11 @@ returns-in_err-served-clause-fault g c =
     (ends_early g.S.Store g.D.Database.finds cluster c.args.moment serving (g.R.Read.remaining c.args.users) users.book users.floors.items
     c.in_ok-named.ensures.users fault c.in_err-served.ensures.fault
     (λ served. ends_served g.S.Store g.D.Database.finds cluster c.args.moment serving (g.R.Read.remaining c.args.users) users.book users.floors.items
-    c.in_ok-named.ensures.users found counts c.in_ok-node.node c.serve_desk.new.node boot c.args.socket.now.gone_back c.in_ok-floors.floors.items opened c.in_ok-node.ensures.opened c.in_ok-node.ensures.book
+    c.in_ok-named.ensures.users found counts c.in_ok-node.node c.serve_desk.new.node boot c.args.socket.now.gone_back c.args.socket.now.heard c.in_ok-floors.floors.items opened c.in_ok-node.ensures.opened c.in_ok-node.ensures.book
     c.in_ok-node.ensures.limits (c.in_ok-node.ensures.key ∙ c.bare-bare.ensures) c.in_ok-node.ensures.place
     (λ clean. ap (λ (start : Start). start.boot) c.start_of-start.ensures ∙ ap (λ (b : ℕ). b + 1) (c.in_ok-boot.ensures.reads.ok clean))
     c.in_ok-floors.ensures.floors fault
-    (served_over serving.lines c.in_ok-front.front _ _ members c.in_ok-front.ensures.front c.me.ensures.value (start_is _ _ _ _ _ _ boot key names me)
+    (served_over serving.lines c.in_ok-front.front _ _ members c.in_ok-front.ensures.front c.me.ensures.value (start_is _ _ _ _ _ _ boot _ key names me)
     (packer_is _ _ _ _ _ _ boot _ _ _ key names me c.n.ensures.value) served)))
 
 pub returns-in_err-key-clause-fault : goal.returns-in_err-key-clause-fault
