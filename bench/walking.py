@@ -30,8 +30,10 @@ WORKERS, FEW = 64, 4
 BEFORE, REST = 2.0, 3.0
 # The word of the page that begins a cluster by names.
 NAMES = "trial-of-names-1"
-# The first codes of the pages' users, and their numbers.
-RFC_CODES = {code(RFC_KEY, factor): factor for factor in range(30)}
+# The secrets of the pages' users, if they have another one than the RFC's.
+PAGE_SECRETS = {"bob": b"98765432109876543210".hex(), "dan": "30" * 20}
+# The pages have codes of counters below this one.
+PAGE_CODES = 30
 MARK = b"\x1e"
 
 
@@ -50,6 +52,11 @@ pages = load_pages()
 def secret_of(word):
     """Returns the secret of a user, 20 bytes."""
     return hashlib.sha1(word.encode()).digest()
+
+
+def page_secret(user):
+    """Returns the secret of a user of the pages, as its row has it."""
+    return PAGE_SECRETS.get(user, RFC_KEY.hex())
 
 
 def row_of(user, kind="HOTP", password="-", secret=None):
@@ -101,20 +108,20 @@ class Own:
         if not self.suffix:
             return text
         text = re.sub(r"\b[0-9]{40}\b", lambda found: self.secret(found[0]).hex(), text)
-        text = re.sub(r"\b(?:CHECK|RESYNC) \w+ [0-9]{6}(?: [0-9]{6})?", self.codes, text)
+        text = re.sub(r"\b(?:CHECK|RESYNC) (\w+) [0-9]{6}(?: [0-9]{6})?", self.codes, text)
         return re.sub(r"\b(ann|bob|cid|dan|eve)\b", r"\g<1>" + self.suffix, text)
 
     def codes(self, found):
-        """Returns a line with the codes of the secret that the act has in the place of the RFC's."""
-        key = self.secret(RFC_KEY.hex())
-        own = {old: code(key, factor) for old, factor in RFC_CODES.items()}
+        """Returns a line with the codes of the secret that the act has in the place of the page's."""
+        secret = page_secret(found[1])
+        old, key = bytes.fromhex(secret), self.secret(secret)
+        own = {code(old, factor): code(key, factor) for factor in range(PAGE_CODES)}
         return re.sub("[0-9]{6}", lambda digits: own.get(digits[0], digits[0]), found[0])
 
     def rows(self, *names):
         """Returns the rows of page users with event tokens, and of cid with a time token."""
-        secrets = {"dan": "30" * 20}
         return [row_of(name + self.suffix, "HOTP/T30" if name == "cid" else "HOTP",
-                       secret=self.secret(secrets.get(name, RFC_KEY.hex()))) for name in names]
+                       secret=self.secret(page_secret(name))) for name in names]
 
 
 class Shell:
@@ -321,7 +328,8 @@ class Site:
     def run(self, text, told=None, own=None):
         """Runs a command, and compares what it prints with what is told, if anything is. Returns it."""
         own = own or self.own
-        printed = pages.plain(self.shell.run(own.text(text)))
+        # The probes of a look have one secret, which `oathd check` notes.
+        printed = re.sub(r"(?m)^oathd: note: .* have one secret: .*\n", "", pages.plain(self.shell.run(own.text(text))))
         pattern = None if told is None else pages.pattern_of([loosened(own.text(line)) for line in told])
         if pattern is not None and not re.fullmatch(pattern, printed):
             lines = "".join("    %s\n" % line for line in told), indent(printed[:1500], "    ")

@@ -3,7 +3,7 @@
 
     tools/edits.py    says which edits can't be made, and counts them. It tries nothing
 
-mutants/README.md has the format. Each old text stands in its file exactly once.
+mutants/README.md has the format. Each old text stands in its file exactly once. docs/auditor.md has to tell the counts.
 """
 import re
 import subprocess
@@ -155,13 +155,29 @@ def run(folder, *words):
     return done.returncode, done.stdout
 
 
+def counts(of_gate, mutants):
+    """Returns the lines of docs/auditor.md that tell how many edits there are."""
+    bodies, definitions = mutants["bodies"], mutants["definitions"]
+    untried = {kind: sum(edit.state == "untried" for edit, _ in edits) for kind, edits in mutants.items()}
+    return [
+        f"- The gate tries {len(of_gate)} wrong bodies (`must-fail/`). The prover has to refuse each.",
+        f"- [mutants/](../mutants/README.md) keeps {len(bodies)} more, {untried['bodies']} of them untried.",
+        f"- It keeps {len(definitions)} wrong definitions, {untried['definitions']} of them untried, each with the law, "
+        "test or script that has to refuse it.",
+    ]
+
+
 def main():
     """Prints which edits can't be made."""
     crates, good, bad = TOP / "crates", 0, []
-    edits = [(read_edit(path), path.parent.parent) for path in sorted(crates.glob("*/must-fail/*.edit"))]
-    for kind in ("bodies", "definitions"):
-        for crate in crates_with_mutants(kind):
-            edits += [(edit, crates / crate) for edit in read_mutants(kind, crate)]
+    of_gate = [(read_edit(path), path.parent.parent) for path in sorted(crates.glob("*/must-fail/*.edit"))]
+    mutants = {
+        kind: [(edit, crates / crate) for crate in crates_with_mutants(kind) for edit in read_mutants(kind, crate)]
+        for kind in ("bodies", "definitions")
+    }
+    told = (TOP / "docs/auditor.md").read_text().splitlines()
+    bad += [f"docs/auditor.md lacks the line: {line}" for line in counts(of_gate, mutants) if line not in told]
+    edits = of_gate + mutants["bodies"] + mutants["definitions"]
     for edit, folder in edits:
         try:
             texts(folder, edit)

@@ -79,11 +79,17 @@ class Counters(Case):
     def test_lines_of_a_minute_and_of_a_flood(self):
         lines = "unopened form=1 tag=12 late=3\nolder member=2 boot=4711\ndiffers member=3\nroster rows=3 enrolled=0 retired=1 book=4a7512ffe7c9b201\n"
         lines += "fell member=2 name=0123456789abcdef0123456789abcdef\n"
-        lines += "reload refused line=7 BadSecret\nreload refused NoTokens\n"
+        lines += "reload refused line=7 BadSecret\nreload refused NoTokens\nshared secret rows=3,7\n"
         lines += "refused %s NO - BADLINE\nbadline more=4\n%send received=9 replied=6\n" % (FROM, accepted("ann", 7))
         self.assertEqual(self.counters(*self.logs(lines)), [8, 0])
         self.refused("Lines", *self.logs(lines.replace("more=4", "more=5")))
         self.refused("UnknownLine", *self.logs("unopened\n"))
+
+    def test_rows_with_one_secret_before_the_first_start(self):
+        line = "shared secret rows=1,2\n"
+        log = self.put("log.1", line + start(1, 1) + accepted("ann", 7) + line + start(1, 2))
+        self.assertEqual(self.counters(log, self.put("log.2", line + start(2, 1))), [8, 0])
+        self.refused("NoStart", self.put("log.1", line + accepted("ann", 7)), self.put("log.2", start(2, 1)))
 
     def test_the_greatest_of_all_says(self):
         logs = self.logs(accepted("ann", 9) + accepted("ann", 8), start(2, 1) + accepted("ann", 11) + start(2, 2))

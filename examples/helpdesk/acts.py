@@ -6,7 +6,7 @@ import subprocess
 import lists
 import phone
 import wakdulg
-from book import duplicates, row_in, with_row, with_rows
+from book import User, duplicates, row_in, with_row, with_rows
 from tokens import Fault, Token
 from users_file import UsersFile
 
@@ -15,10 +15,10 @@ KINDS = {"totp": "An app that shows a new code every 30 seconds", "hotp": "A dev
 
 
 class Shown:
-    """A new secret, which one page shows once."""
+    """A new secret, which only the session of an act shows, and the kind of its token."""
 
     def __init__(self, token, issuer):
-        self.uri = phone.uri_of(token, issuer, token.user)
+        self.uri, self.kind = phone.uri_of(token, issuer, token.user), kind_of(token)
         self.secret = self.uri.split("secret=")[1].split("&")[0]
         self.squares = squares_of(self.uri)
 
@@ -46,16 +46,28 @@ def squares_of(uri):
 def copied(outcome):
     """Returns the words for what the hook did."""
     is_done, said = outcome
-    return "copied to the members" if is_done else "NOT copied to all members: %s" % said
+    return "copied to the members" if is_done else "pending, NOT copied to all members: %s" % said
 
 
-def new_token(name, kind):
-    """Returns a new token for an app, with random bytes of the system."""
-    token = Token("the form", secrets.token_bytes(SECRET_BYTES), kind, user=name)
-    token.check()
+def kind_of(token):
+    return User(b"", token.type_word()).kind()
+
+
+def new_token(name, kind, **more):
+    """Returns a new token with random bytes of the system."""
     if kind not in KINDS:
         raise Fault("the form", "BadType", "choose one of both kinds")
+    token = Token("the form", secrets.token_bytes(SECRET_BYTES), kind, user=name, **more)
+    token.check()
     return token
+
+
+def token_in_place_of(user, kind):
+    """Returns a new token of a user: of a kind that the form names, else with all that the user's token has."""
+    if kind:
+        return new_token(user.text, kind)
+    kind, period = ("totp", user.period()) if user.period() else ("hotp", 30)
+    return new_token(user.text, kind, period=period, digits=user.digits(), hash=user.hash())
 
 
 class Desk:
@@ -80,12 +92,12 @@ class Desk:
             raise Fault("the cluster", "refused", str(refusal)) from None
 
     def replace(self, user, form):
-        """Gives the user another secret of the same kind. Returns also what a page shows once."""
+        """Gives the user another secret, of the same kind if the form names none. Returns also what a page shows."""
         self.protect(user.text)
-        token = new_token(user.text, "totp" if user.period() else "hotp")
+        token = token_in_place_of(user, form.get("kind", ""))
         shown = Shown(token, self.issuer)
         outcome = self.book.change(self.replacement(user, token))
-        return "replaced the token; " + copied(outcome), shown
+        return "replaced the token (%s); %s" % (shown.kind, copied(outcome)), shown
 
     @staticmethod
     def replacement(user, token):
@@ -101,7 +113,7 @@ class Desk:
         return "retired; " + copied(self.book.change(with_row(user.name, user.mark, b"")))
 
     def enrol(self, form):
-        """Adds a user with a new secret. Returns also the user's name and what a page shows once."""
+        """Adds a user with a new secret. Returns also the user's name and what a page shows."""
         name = form.get("name", "").strip()
         self.protect(name)
         token = new_token(name, form.get("kind", ""))

@@ -1,26 +1,31 @@
 """The users file of the site: who has which token, and the one writer of it."""
 import contextlib
+import functools
 import hashlib
+import hmac
 import os
 import shlex
+import signal
 import subprocess
 import threading
 import time
 from typing import NamedTuple
 
 from tokens import Fault, read_rows
-from users_file import UsersFile, ask_oathd, lock_beside
+from users_file import UsersFile, ask_oathd, lock_beside, sync_folder
 
 HASHES = {"SHA256": "SHA-256", "SHA512": "SHA-512"}
 PASSWORDS = {b"-": "none", b"+": "not checked by the nodes"}
 
 
 class User(NamedTuple):
-    """A row of the users file, without its secret. `mark` differs if the row does."""
+    """A row of the users file, without its secret. `mark` differs if the row does. `token` is the name by which members
+    know the row's token: it differs if the user, the secret or the type does. A user without a row has none."""
     name: bytes
-    type: str
-    password: str
-    mark: bytes
+    type: str = ""
+    password: str = ""
+    mark: bytes = b""
+    token: bytes | None = None
 
     @property
     def text(self):
@@ -39,24 +44,56 @@ class User(NamedTuple):
         """Returns the seconds of a step, or None for an event token."""
         return {"T30": 30, "T60": 60}.get((self.type + "/").split("/")[1])
 
+    def digits(self):
+        return int(self.type.split("/")[2])
+
+    def hash(self):
+        return (self.type.split("/") + ["SHA1"])[3]
+
     def kind(self):
-        fields, period = self.type.split("/"), self.period()
-        digits = fields[2] if len(fields) > 2 else "6"
+        period = self.period()
         what = "time token, steps of %d s" % period if period else "event token"
-        return "%s, %s digits, %s" % (what, digits, HASHES.get(fields[3] if len(fields) > 3 else "", "SHA-1"))
+        return "%s, %d digits, %s" % (what, self.digits(), HASHES.get(self.hash(), "SHA-1"))
 
 
-def user_of(row):
-    fields = b"\t".join([row.type, row.user, row.password, row.secret.lower()])
+@functools.cache
+def whole_type(word):
+    """Returns the type of a row with its kind and its digits, as `oathd export` writes it."""
+    fields = word.split(b"/")
+    return b"/".join(fields + [b"E", b"6"][len(fields) - 1:] if len(fields) < 3 else fields)
+
+
+def fields_of(row):
+    return b"\t".join([whole_type(row.type), row.user, row.secret.lower()])
+
+
+def mark_of(row):
+    return hashlib.sha256(fields_of(row) + b"\t" + row.password).digest()
+
+
+def user_of(row, names):
+    """Returns the user of a row. `names` is the cluster's word of names."""
     password = PASSWORDS.get(row.password, "must be given")
-    return User(row.user, row.type.decode(), password, hashlib.sha256(fields).digest())
+    token = hmac.digest(names, fields_of(row) + b"\n", "sha256")[:16].hex().encode()
+    return User(row.user, whole_type(row.type).decode(), password, mark_of(row), token)
 
 
 class Book:
-    """The users file. It is read again when it changes, and changed by `change` alone."""
+    """The users file. It is read again when it changes, and changed by `change` alone.
 
-    def __init__(self, path, oathd, cluster, push):
-        self.path, self.oathd, self.cluster, self.push = path, oathd, cluster, shlex.split(push or "")
+    It is pending from a change until the hook says that each member has the file. Then a mark beside the file is there,
+    so another process knows that too, and the same one after a restart."""
+    # A hook is ended after this number of seconds.
+    PATIENCE = 120
+    # A pending file is copied again after this number of seconds, and after four times those that the hook took: acts
+    # wait for the hook.
+    PAUSE = 15
+
+    def __init__(self, path, oathd, file, push):
+        # The folder of the copy without the key lives as long as the file is kept.
+        self.path, self.oathd, self.file, self.push = path, oathd, file, shlex.split(push or "")
+        self.cluster, self.names = file.keyless, file.names
+        self.mark, self.said = os.path.realpath(path) + ".pending", ""
         self.stamp, self.users, self.folded, self.fault = None, {}, [], ""
         self.reading, self.writing = threading.Lock(), threading.Lock()
         self.refresh()
@@ -70,7 +107,8 @@ class Book:
                 if stamp == self.stamp:
                     return
                 with open(self.path, "rb") as file:
-                    users = sorted(map(user_of, read_rows(file.read())), key=lambda user: user.text.casefold())
+                    rows = read_rows(file.read())
+                users = sorted((user_of(row, self.names) for row in rows), key=lambda user: user.text.casefold())
                 self.users = {user.name: user for user in users}
                 self.folded = [(user.text.casefold(), user) for user in users]
                 self.stamp, self.fault = stamp, ""
@@ -114,30 +152,93 @@ class Book:
 
     def change(self, edit):
         """Puts the text that `edit` makes of the file in its place, and has it copied to the members. Returns whether
-        that succeeded, and what the hook said. The lock is held meanwhile, so no older copy comes after a newer one."""
+        that succeeded, and what the hook said. The lock is held meanwhile."""
         with self.lock():
             users = UsersFile(self.path, create=False)
             text = edit(users)
             self.check(text)
+            if self.push:
+                self.set_mark()
             users.replace(text)
             self.refresh()
             return self.copy()
 
     def copy(self):
+        """Has the hook copy the file. The file is no longer pending if that succeeded."""
         if not self.push:
             return False, "no --push copies the file to the members"
+        is_done, self.said = run_hook(self.push, self.PATIENCE)
+        if is_done:
+            with contextlib.suppress(OSError):
+                os.unlink(self.mark)
+        return is_done, self.said
+
+    # ---- What is pending
+
+    def set_mark(self):
+        """Puts the mark on the disk. An earlier one stays, with its moment."""
+        with contextlib.suppress(FileExistsError):
+            os.close(os.open(self.mark, os.O_WRONLY | os.O_CREAT | os.O_EXCL | os.O_NOFOLLOW, 0o600))
+        sync_folder(self.mark)
+
+    def pending(self):
+        """Returns the second since which not all members have the file, or None."""
         try:
-            done = subprocess.run(self.push, stdin=subprocess.DEVNULL, stdout=subprocess.PIPE, stderr=subprocess.STDOUT,
-                                  timeout=120)
-        except (OSError, subprocess.SubprocessError) as fault:
-            return False, type(fault).__name__
-        return done.returncode == 0, done.stdout.decode("utf-8", "replace").strip()[-500:]
+            return os.lstat(self.mark).st_mtime
+        except FileNotFoundError:
+            return None
+
+    def copy_pending(self):
+        """Has the hook copy a pending file, if `oathd check` takes it: it may have been changed by hand."""
+        if self.pending() is None:
+            return
+        try:
+            with self.lock():
+                if self.pending() is not None:
+                    self.check(UsersFile(self.path, create=False).text)
+                    self.copy()
+        except (OSError, Fault) as fault:
+            self.said = str(fault)
+
+    def keep_copying(self):
+        """Copies a pending file until all members have it, in a thread that ends with the process."""
+        def keep():
+            while True:
+                begin = time.monotonic()
+                self.copy_pending()
+                time.sleep(self.PAUSE + 4 * (time.monotonic() - begin))
+        threading.Thread(target=keep, daemon=True).start()
+
+
+def run_hook(words, patience):
+    """Returns whether a hook succeeded, and the end of what it said. One that takes too long is ended with all that it
+    began, so that none of it works on."""
+    try:
+        hook = subprocess.Popen(words, stdin=subprocess.DEVNULL, stdout=subprocess.PIPE, stderr=subprocess.STDOUT,
+                                start_new_session=True)
+    except OSError as fault:
+        return False, type(fault).__name__
+    try:
+        said = hook.communicate(timeout=patience)[0]
+    except subprocess.TimeoutExpired:
+        end_group(hook)
+        return False, "the hook was ended after %d seconds" % patience
+    return hook.returncode == 0, said.decode("utf-8", "replace").strip()[-500:]
+
+
+def end_group(leader, pause=3):
+    """Ends all processes of a group. They have some seconds to remove their files."""
+    for number in signal.SIGTERM, signal.SIGKILL:
+        with contextlib.suppress(ProcessLookupError):
+            os.killpg(leader.pid, number)
+        with contextlib.suppress(subprocess.TimeoutExpired):
+            leader.communicate(timeout=pause)
 
 
 def row_in(users, name, mark=None):
     """Returns the row of a user. If there is a `mark`, the row is to be the one that staff saw."""
     row = next((row for row in users.rows if row.user == name), None)
-    if row is None or (mark is not None and user_of(row).mark != mark):
+    if row is None or (mark is not None and mark_of(row) != mark):
         raise Fault("the users file", "Changed", "the row was changed meanwhile; look at the user again")
     return row
 
@@ -162,19 +263,30 @@ def with_rows(tokens):
     return edit
 
 
+def device_of(secret):
+    """Returns what the codes of a secret depend on: HMAC fills a key with zero bytes."""
+    secret = secret.lower()
+    while secret.endswith(b"00") and len(secret) % 2 == 0:
+        secret = secret[:-2]
+    return secret
+
+
 def duplicates(users, tokens):
-    """Returns a fault for each token whose user or secret the file, or an earlier token, has already."""
-    names, known = ({getattr(row, field): "line %d of the users file" % row.line for row in users.rows}
-                    for field in ("user", "secret"))
-    known = {secret.lower(): place for secret, place in known.items()}
+    """Returns a fault for each token whose user or secret the file, or an earlier token, has already. A secret is a
+    device: if two users have it, a code of one lets in the other."""
+    names, devices = {}, {}
+    for row in users.rows:
+        place = "line %d of the users file" % row.line
+        names[row.user] = place
+        devices[device_of(row.secret)] = "%s, %s" % (row.user.decode("utf-8", "backslashreplace"), place)
     faults = []
     for token in tokens:
-        name, secret = token.user.encode(), token.secret.hex().encode()
+        name, device = token.user.encode(), device_of(token.secret.hex().encode())
         if name in names:
             faults.append(Fault(token.place, "DuplicateUser", "%s has a token: %s" % (token.user, names[name])))
-        elif secret in known:
-            detail = "%s has the secret of %s" % (token.user, known[secret])
+        elif device in devices:
+            detail = "%s would have the secret of %s: give each user another device" % (token.user, devices[device])
             faults.append(Fault(token.place, "DuplicateSecret", detail))
         names.setdefault(name, token.place)
-        known.setdefault(secret, token.place)
+        devices.setdefault(device, "%s, %s" % (token.user, token.place))
     return faults

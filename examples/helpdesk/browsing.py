@@ -1,5 +1,4 @@
-"""Works at a site as its users do: in Chromium without a screen, by the keyboard alone, and by curl. It counts what it
-sees, and what should be otherwise."""
+"""Works at a site as its users do: in Chromium without a screen, by the keyboard alone, and by curl."""
 import argparse
 import re
 import shutil
@@ -9,6 +8,7 @@ import tempfile
 import time
 from pathlib import Path
 
+from counting import PATIENCE, await_that, expect, last_line
 from selenium import webdriver
 from selenium.webdriver.chrome.options import Options
 from selenium.webdriver.chrome.service import Service
@@ -19,7 +19,6 @@ from selenium.webdriver.support.expected_conditions import staleness_of
 from selenium.webdriver.support.ui import WebDriverWait
 from trial_site import IS_ROOT, NODES, TOP, wakdulg
 
-PATIENCE = 300
 FOCUSABLE = "a[href], button, input:not([type=hidden]), select, [tabindex='0']"
 # What a page has to have, whoever reads it and by whatever.
 AUDIT = r"""
@@ -57,24 +56,6 @@ const at = found.findLastIndex((each) => name(each) === arguments[1]);
 return at < 0 ? null : at - found.indexOf(document.activeElement);
 """
 TEXTS = "return [...document.querySelectorAll(arguments[0])].map((each) => each.innerText)"
-
-told, wrong = 0, []
-
-
-def expect(what, got, wanted):
-    global told
-    told += 1
-    if got != wanted:
-        wrong.append("%s: %r in place of %r" % (what, got, wanted))
-    print("%s %s" % ("as told:" if got == wanted else "NOT:", what if got == wanted else wrong[-1]), flush=True)
-
-
-def await_that(what, call, wanted=True, patience=PATIENCE):
-    """Expects that a call returns something after a while."""
-    end = time.monotonic() + patience
-    while (got := call()) != wanted and time.monotonic() < end:
-        time.sleep(1)
-    expect(what, got, wanted)
 
 
 class Browser:
@@ -299,10 +280,7 @@ def run(doc, folder, parts, make_site, make_test):
             if browser:
                 shutil.rmtree(browser.profile, ignore_errors=True)
             print(site.read_all("faults", "error.log")[-2000:], end="")
-    for line in wrong:
-        print(line)
-    print("%d as told, %d not" % (told - len(wrong), len(wrong)))
-    return len(wrong) > 0
+    return last_line()
 
 
 def run_parts(test, parts, begin):

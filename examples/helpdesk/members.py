@@ -21,8 +21,9 @@ class Refusal(Exception):
 
 
 class Row(NamedTuple):
-    """A row of a member's store."""
+    """A row of a member's store, with the name of its token."""
     number: int
+    token: bytes
     floor: int
     user: bytes
 
@@ -30,7 +31,7 @@ class Row(NamedTuple):
 def row_of(line):
     """Returns the row of a line of ROSTER."""
     fields = line.split(b" ", 4)
-    return Row(int(fields[1]), int(fields[3]), fields[4])
+    return Row(int(fields[1]), fields[2], int(fields[3]), fields[4])
 
 
 class Member:
@@ -136,22 +137,33 @@ class Member:
 
 
 class State(NamedTuple):
-    """What one member says of a user. `says` is "yes", "no" or "silent"."""
+    """What one member says of a user. `says` is "yes" if it has the token of the users file, "another" if it has one of
+    another secret or kind, "no", or "silent". `is_done` is whether it has what the users file says."""
     member: int
     says: str
+    is_done: bool = False
     floor: int = 0
     failures: int = 0
     until: int = 0
 
 
+def settled(states, what):
+    """Returns how many members have what the users file says. It is in force if they are more than half: no vote can
+    pass by the others alone."""
+    done, count = sum(state.is_done for state in states), len(states)
+    more = "" if done == count else ": in force, and pending at the others" if 2 * done > count else ": pending"
+    return "%d of %d members %s%s." % (done, count, what, more)
+
+
 class ClusterFile:
-    """A cluster file by names: the addresses of its members, and a copy of it without the key. `oathd check` finds the
-    faults of a users file under any key, so a site needs none of the cluster's."""
+    """A cluster file by names: its word of names, the addresses of its members, and a copy of it without the key.
+    `oathd check` finds the faults of a users file under any key, so a site needs none of the cluster's."""
 
     def __init__(self, path):
         lines = [line.split() for line in Path(path).read_text().splitlines()]
         lines = [fields for fields in lines if fields and not fields[0].startswith("#")]
-        if not any(fields[0] == "names" for fields in lines):
+        self.names = next((fields[1].encode() for fields in lines if fields[0] == "names" and len(fields) > 1), None)
+        if self.names is None:
             raise ValueError("the cluster file gives no names: " + path)
         self.nodes = ",".join(fields[2] for fields in lines if fields[0] == "member")
         self.folder = tempfile.TemporaryDirectory()
@@ -181,12 +193,16 @@ class Members:
 
     @staticmethod
     def state_at(member, user):
+        """Returns the state of a user. Tokens are compared, since the row of an old phone has the user's name too."""
         try:
-            row = member.row_of_user(user)
-            failures, until = member.gate(user) if row else (0, 0)
+            row = member.row_of_user(user.name)
+            failures, until = member.gate(user.name) if row else (0, 0)
         except (Silent, Refusal, OSError):
             return State(member.number, "silent")
-        return State(member.number, "yes" if row else "no", row.floor if row else 0, failures, until)
+        if row is None:
+            return State(member.number, "no", user.token is None)
+        is_done = row.token == user.token
+        return State(member.number, "yes" if is_done else "another", is_done, row.floor, failures, until)
 
     def states(self, user):
         return self.ask_all(lambda member: self.state_at(member, user))

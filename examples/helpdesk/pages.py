@@ -3,20 +3,24 @@ import json
 import time
 
 from acts import KINDS
+from book import User
 from flask import Response, redirect, render_template, request
+from members import settled
 from sessions import is_same
 from tokens import Fault
 import wakdulg
 import web
-from web import Stop, address
+from web import NOT_BEGUN, Stop, at_moment
 
 MOST_FOUND, MOST_LINES = 50, 10
 ACTS = {
     "unlock": ("Unlock", "All members forget the failures of this user. Whoever guesses can guess again."),
     "resync": ("Resynchronize", "Two codes in a row of the user's token set its counter. Both are used up."),
-    "replace": ("Replace the phone", "The user gets a new secret. The old phone's codes are refused from then on."),
-    "retire": ("Retire", "The row is removed, and the user logs in no more."),
+    "replace": ("Replace the phone", "The user gets a new secret. The old phone's codes are refused when more than half"
+                                     " of the members have the new row."),
+    "retire": ("Retire", "The row is removed. The user logs in no more when more than half of the members know that."),
 }
+PENDING = "Pending since %s: not all members have the users file. It is copied again by itself. %s"
 
 
 class Site(web.Pages):
@@ -44,9 +48,15 @@ class Site(web.Pages):
 
     # ---- Pages
 
-    def user_of(self, name):
+    def warning(self):
+        since = self.book.pending()
+        return "" if since is None else PENDING % (at_moment(since), self.book.said)
+
+    def user_of(self, name, is_retired=False):
+        """Returns the user of a path. With `is_retired` it may be one of no row."""
         try:
-            user = self.book.find(bytes.fromhex(name))
+            name = bytes.fromhex(name)
+            user = self.book.find(name) or (User(name) if is_retired else None)
         except ValueError:
             user = None
         if user is None:
@@ -74,22 +84,40 @@ class Site(web.Pages):
         answer.headers["Server-Timing"] = "search;dur=%.1f" % (1000 * (time.thread_time() - begin))
         return answer
 
+    def states_of(self, user):
+        """Returns what a page tells of the members and a user."""
+        states = self.members.states(user)
+        what = "have the row" if user.token else "have no row of the user"
+        return {"user": user, "states": states, "settled": settled(states, what), "now": int(time.time())}
+
     def show_user(self, name):
         session, user = self.own_session(), self.user_of(name)
-        return self.page("user.html", user.text, session, user=user, acts=ACTS, states=self.members.states(user.name),
-                         now=int(time.time()), answers=self.logs.last(user.name, MOST_LINES),
-                         done=self.record.last(MOST_LINES, user.text))
+        return self.page("user.html", user.text, session, acts=ACTS, answers=self.logs.last(user.name, MOST_LINES),
+                         done=self.record.last(MOST_LINES, user.text), **self.states_of(user))
+
+    def show_retired(self, name):
+        """Which members have a row of a user still, whom the file has no more."""
+        session, user = self.own_session(), self.user_of(name, is_retired=True)
+        if user.token:
+            return redirect("/users/%s" % user.hex, 303)
+        return self.page("retired.html", "%s has no row" % user.text, session,
+                         done=self.record.last(MOST_LINES, user.text), **self.states_of(user))
 
     def show_states(self, name):
         """A part of a page: which members have the row. It doesn't keep the session alive."""
         if self.session(is_used=False) is None:
             return "", 401
-        user = self.user_of(name)
-        return render_template("states.html", user=user, states=self.members.states(user.name), now=int(time.time()))
+        return render_template("states.html", **self.states_of(self.user_of(name, is_retired=True)))
+
+    def told(self, table):
+        """Returns a table with what the page says of it. Members that all serve an older users file are well, and the
+        file isn't in force."""
+        pending = "" if self.book.pending() is None else "the members are well, and not all have the users file"
+        return {**table, "said": table["said"] or pending or "all members are well"}
 
     def show_cluster(self):
         session = self.own_session()
-        return self.page("cluster.html", "The cluster", session, table=self.table.now()[1])
+        return self.page("cluster.html", "The cluster", session, table=self.told(self.table.now()[1]))
 
     def events(self):
         """Sends a table whenever there is a new one, while the session lives. It doesn't keep the session alive."""
@@ -105,7 +133,7 @@ class Site(web.Pages):
                 number = 0
                 while (session := self.sessions.find(name, is_used=False)) and session.user in self.desk.staff():
                     number, table = self.table.after(number)
-                    yield "data: %s\n\n" % json.dumps(table)
+                    yield "data: %s\n\n" % json.dumps(self.told(table))
                 yield "event: over\ndata: over\n\n"
             finally:
                 self.table.places.release()
@@ -122,24 +150,25 @@ class Site(web.Pages):
         what the call returned. An act that can't be noted isn't begun."""
         _, refusal = self.ask(session.user, lambda: self.check_code(session.user))
         if refusal:
-            self.record.write(session.user, act, user, "refused: the second code", address())
+            session.alert = self.note(session.user, act, user, "refused: the second code")
             return (*refusal, None)
-        self.record.write(session.user, act, user, "begins", address())
+        if self.note(session.user, act, user, "begins"):
+            return NOT_BEGUN, 503, None
         try:
             done = call()
         except (Fault, OSError) as fault:
-            self.record.write(session.user, act, user, "failed: %s" % fault, address())
+            session.alert = self.note(session.user, act, user, "failed: %s" % fault)
             return "Nothing was done: %s" % fault, 409, None
         outcome = done if isinstance(done, str) else done[0]
-        self.record.write(session.user, act, user, outcome, address())
         session.notice = "%s: %s." % (user or "Import", outcome)
+        session.alert = self.note(session.user, act, user, outcome)
         return "", 303, done
 
     def confirmation(self, session, user, act, fault="", status=200):
         title, what = ACTS[act]
         seen = self.sessions.mark(user.mark)
         return self.page("confirm.html", "%s: %s" % (title, user.text), session, user=user, act=act, button=title,
-                         what=what, seen=seen, fault=fault), status
+                         what=what, seen=seen, kinds=KINDS, fault=fault), status
 
     def show_act(self, name, act):
         session, user = self.own_session(), self.user_of(name)
@@ -158,13 +187,13 @@ class Site(web.Pages):
         if act == "replace":
             session.shown[user.hex] = done[1]
             return redirect("/users/%s/secret" % user.hex, 303)
-        return redirect("/" if act == "retire" else "/users/%s" % user.hex, 303)
+        return redirect("/users/%s%s" % (user.hex, "/retired" if act == "retire" else ""), 303)
 
     def show_secret(self, name):
         session, user = self.own_session(), self.user_of(name)
         shown = session.shown.pop(user.hex, None) if request.method == "GET" else None
-        return self.page("secret.html", "The new phone of %s" % user.text, session, user=user, shown=shown,
-                         states=self.members.states(user.name), now=int(time.time()))
+        return self.page("secret.html", "The new phone of %s" % user.text, session, shown=shown,
+                         **self.states_of(user))
 
     def show_enrol(self, fault="", status=200):
         session = self.own_session()
@@ -233,6 +262,7 @@ def make_application(words):
         ("/import", site.dry_run, "POST"), ("/import/<name>", site.show_dry_run, "GET"),
         ("/import/<name>", site.do_import, "POST"), ("/users/<name>", site.show_user, "GET"),
         ("/users/<name>/states", site.show_states, "GET"), ("/users/<name>/secret", site.show_secret, "GET"),
+        ("/users/<name>/retired", site.show_retired, "GET"),
         ("/users/<name>/<act>", site.show_act, "GET"), ("/users/<name>/<act>", site.do_act, "POST"),
     ]
     return web.make_application(words, site, routes)

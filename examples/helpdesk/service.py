@@ -39,6 +39,8 @@ class Service(BaseApplication):
             self.cfg.set(name, value)
 
     def load(self):
+        # In the process that serves, since a thread isn't in the child of a process.
+        self.words.desk.book.keep_copying()
         return self.make_application(self.words)
 
 
@@ -70,10 +72,9 @@ def prepare(words, file, members=None):
     """Puts into the words what they name: the desk over a cluster file, the record and the log."""
     pauses = words.patience / 8, words.patience * 5 / 16
     cluster = wakdulg.Cluster(file.nodes, pauses, words.patience, key=wakdulg.read_key(words.key_file))
-    book = Book(words.users, oathd(), file.keyless, words.push)
+    book = Book(words.users, oathd(), file, words.push)
     words.desk = Desk(book, members, cluster, staff_of(words.staff), words.issuer)
-    # The folder of the copy without the key lives as long as the file is kept.
-    words.file, words.record, words.login_log = file, Record(words.record), LOG
+    words.record, words.login_log = Record(words.record), LOG
     # A line that can't be written is lost, and holds up no login.
     logging.raiseExceptions = False
     LOG.addHandler(logging.StreamHandler(sys.stdout))

@@ -7,18 +7,19 @@ import time
 
 
 class Session:
-    """What the process knows of one login: the user, the mark of a row, its ends, and what its pages show once."""
+    """What the process knows of one login: the user, the mark of a row, its ends, and what its pages show."""
 
     def __init__(self, user, row, now, idle, longest):
         self.user, self.row, self.begun, self.used, self.idle, self.longest = user, row, now, now, idle, longest
-        self.notice, self.shown, self.imports = "", {}, {}
+        self.notice, self.alert, self.shown, self.imports = "", "", {}, {}
 
     def ends(self):
         return min(self.begun + self.longest, self.used + self.idle)
 
     def take_notice(self):
-        notice, self.notice = self.notice, ""
-        return notice
+        """Returns the notice and the alert of the next page."""
+        told, self.notice, self.alert = (self.notice, self.alert), "", ""
+        return told
 
 
 class Sessions:

@@ -23,12 +23,14 @@ sys.dont_write_bytecode = True
 sys.path.insert(0, str(Path(__file__).resolve().parent))
 import browsing
 from browsing import Window, await_answer, await_that, expect, settle
-from trial_site import NODES, OATHTOOL, PLAIN_ADDRESS, Site, Token, wakdulg
+from trial_site import NODES, OATHTOOL, PLAIN_ADDRESS, Site, Token, read_rows, wakdulg
+from book import user_of
 from otp import code
 from selenium.webdriver.common.by import By
 from selenium.webdriver.common.keys import Keys
 
 MARKUP = '<img/src=x/onerror="window.hacked=1">'
+ALL_HAVE_IT, ALL_HAVE_NONE = "3 of 3 members have the row.", "3 of 3 members have no row of the user."
 WAITED = """return performance.getEntriesByType("resource").filter((each) => each.name.includes("/search.json"))
     .map((each) => each.duration)"""
 
@@ -36,6 +38,10 @@ WAITED = """return performance.getEntriesByType("resource").filter((each) => eac
 
 def place(name, act=""):
     return "/users/" + name.encode().hex() + ("/" + act if act else "")
+
+
+def base32_of(row):
+    return base64.b32encode(bytes.fromhex(row[3])).decode().rstrip("=")
 
 
 def listed(seconds):
@@ -115,25 +121,36 @@ class Test:
         lines = self.site.read("desk/users").splitlines()
         return next((line.split() for line in lines if line.split()[1:2] == [name]), None)
 
-    def act(self, name, title, **fields):
+    def act(self, name, title, kind=None, **fields):
         """Makes an act on a user by the keyboard, from the page of the user on."""
         self.browser.open(place(name))
         self.browser.press(title)
+        if kind:
+            self.choose("The same kind: " + self.kind_of(name), kind)
         for label, text in fields.items():
             self.browser.fill(label.replace("_", " ").replace("users", "user's"), text)
         self.browser.fill("Your own next code", self.sam.code())
         self.browser.press(title)
 
+    def kind_of(self, name):
+        rows = read_rows(self.site.read("desk/users").encode())
+        return user_of(next(row for row in rows if row.user == name.encode()), b"").kind()
+
+    def choose(self, present, wanted):
+        """Moves from the present choice down to another one."""
+        self.browser.tab_to(present)
+        while self.browser.driver.switch_to.active_element.find_element(By.XPATH, "..").text != wanted:
+            self.browser.keys(Keys.ARROW_DOWN)
+
     def fill_enrolment(self, name):
         """Fills the form that enrols a user with a device that counts."""
         self.browser.open("/enrol")
         self.browser.fill("Name of the new user", name)
-        self.browser.tab_to("An app that shows a new code every 30 seconds")
-        self.browser.keys(Keys.ARROW_DOWN)
+        self.choose("An app that shows a new code every 30 seconds", "A device that counts presses of a button")
         self.browser.fill("Your own next code", self.sam.code())
 
     def have_row(self, *members):
-        wanted = "%d of 3 members have the row." % (len(members) or 3)
+        wanted = "2 of 3 members have the row: in force, and pending at the others." if members else ALL_HAVE_IT
         await_that("which members have the row", lambda: self.browser.text("#settled"), wanted)
 
     # ---- The parts
@@ -344,27 +361,85 @@ class Test:
         self.act("cid", "Replace the phone")
         raw = bytes.fromhex(self.row("cid")[3])
         expect("another secret", (raw.hex() == old[3], len(raw)), (False, 32))
+        self.have_row()
         settle(self.site)
         expect("the new phone", self.answer("cid", code(raw, 0)), "OK 0")
         expect("the old phone", self.answer("cid", code(self.tokens["cid"].secret, 1)), "INVALID")
+
+    def kinds(self):
+        """A new phone has the kind of the old one, if staff choose no other."""
+        browser = self.browser
+        for name, kind, words in (("tom", "HOTP/T60/8/SHA256", "time token, steps of 60 s, 8 digits, SHA-256"),
+                                  ("eli", "HOTP/E/8", "event token, 8 digits, SHA-1")):
+            self.act(name, "Replace the phone")
+            expect("the row of %s" % name, self.row(name)[0], kind)
+            expect("what the page says", browser.text("#kind"), words)
+        uri = browser.text("#uri")
+        expect("what the link says", re.findall("algorithm=[^&]*|digits=[^&]*", uri), ["algorithm=SHA1", "digits=8"])
+        self.act("tom", "Replace the phone", kind="An app that shows a new code every 30 seconds")
+        expect("another kind", (self.row("tom")[0], "digits=6&period=30" in browser.text("#uri")), ("HOTP/T30/6", True))
 
     def retire(self):
         """A user who goes."""
         self.act("dora", "Retire")
         expect("no row", self.row("dora"), None)
+        expect("where it is told", self.browser.path(), place("dora", "retired"))
+        await_that("who knows the user", lambda: self.browser.text("#settled"), ALL_HAVE_NONE)
         settle(self.site)
         expect("nobody knows the user", self.answer("dora", code(self.tokens["dora"].secret, 0)), "UNKNOWN")
+
+    def pending(self):
+        """Members that don't get the file: the pages say so, and the copy is made again, also after a crash."""
+        browser, joe, settled = self.browser, self.tokens["joe"], lambda: browser.text("#settled")
+        with self.site.closed(2, 3):
+            self.act("joe", "Replace the phone")
+            expect("what is said", "pending, NOT copied to all members" in browser.text("[role=status]"), True)
+            await_that("what one member has", settled, "1 of 3 members have the row: pending.")
+            says = browser.texts("#states tbody td:nth-child(2)")
+            expect("what each member has", says, ["yes", "another token", "another token"])
+            browser.picture("pending")
+            expect("the old phone gets in", await_answer(self.site.front([2]), "joe", code(joe.secret, 0)), "OK 0")
+            self.act("lea", "Retire")
+            await_that("who knows the user", settled, "1 of 3 members have no row of the user: pending.")
+            self.site.crash_desk()
+            browser.log_in(self.sam)
+            expect("after a crash", browser.text("#warning").startswith("Pending since "), True)
+        await_that("it is copied again", lambda: (self.site.desk / "users.pending").exists(), False, 120)
+        settle(self.site)
+        for name, act, wanted in ("joe", "", ALL_HAVE_IT), ("lea", "retired", ALL_HAVE_NONE):
+            browser.open(place(name, act))
+            await_that("what the members have of %s" % name, settled, wanted)
+        expect("no warning", browser.driver.find_elements(By.ID, "warning"), [])
+        expect("the old phone", await_answer(self.site.front([2]), "joe", code(joe.secret, 1)), "INVALID")
+
+    def unrecorded(self):
+        """A record that can't be written: nothing is begun. If the act is done already, its secret is shown."""
+        browser, old = self.browser, self.row("max")
+        with self.site.record_closed_after(""):
+            time.sleep(1)
+            self.act("max", "Replace the phone")
+            told = browser.text("[role=alert]")
+            expect("an act isn't begun", ("Nothing was done. The record" in told, self.row("max")), (True, old))
+        with self.site.record_closed_after('"act": "replace", "user": "max", "outcome": "begins"'):
+            self.act("max", "Replace the phone")
+        expect("the record", "replaced the token" in self.site.read("desk/record").splitlines()[-1], False)
+        expect("the secret is shown", base32_of(self.row("max")), browser.text("#secret").replace(" ", ""))
+        expect("and the fault", "The record could not be written" in browser.text("[role=alert]"), True)
 
     def imports(self):
         """A CSV with faults, and one without."""
         browser, file = self.browser, self.site.folder / "list.csv"
         secret = {number: ("%02d" % number) * 20 for number in range(10)}
+        # The codes of a secret with a zero byte behind it are the same.
+        bobs = self.tokens["bob"].secret.hex().upper() + "00"
         file.write_text("user,secret,type,digits\nann,%s,HOTP,6\nhal,zz,HOTP,6\nida,%s,HOTP,9\nken,%s,HOTP,6\n"
-                        "k en,%s,HOTP,6\n" % tuple(secret[number] for number in range(1, 5)))
+                        "k en,%s,HOTP,6\nlin,%s,TOTP,6\n" % (*(secret[number] for number in range(1, 5)), bobs))
         self.upload(file)
-        faults = [re.findall(r"line (\d+)[^:]*: (\w+)", fault)[0] for fault in browser.texts("#faults li")]
-        expect("each row's fault", faults,
-               [("2", "DuplicateUser"), ("3", "BadSecret"), ("4", "BadDigits"), ("6", "BadName")])
+        told = browser.texts("#faults li")
+        faults = [re.findall(r"line (\d+)[^:]*: (\w+)", fault)[0] for fault in told]
+        expect("each row's fault", faults, [("2", "DuplicateUser"), ("3", "BadSecret"), ("4", "BadDigits"),
+                                            ("6", "BadName"), ("7", "DuplicateSecret")])
+        expect("whose secret it is", "lin would have the secret of bob, line" in told[-1], True)
         expect("no way to import it", browser.driver.find_elements(By.CSS_SELECTOR, "main form"), [])
         browser.picture("import")
         browser.expect_narrow("dry-run")
@@ -494,13 +569,14 @@ class Test:
         expect("the helpdesk had no fault", self.site.read("faults"), "")
 
 
-PARTS = ["login", "search", "ten_thousand", "unlock", "resync", "enrol", "in_time", "replace", "retire", "imports",
-         "markup", "hostile", "staff_goes", "cluster", "narrow", "logout"]
+PARTS = ["login", "search", "ten_thousand", "unlock", "resync", "enrol", "in_time", "replace", "kinds", "retire",
+         "imports", "markup", "hostile", "staff_goes", "cluster", "pending", "unrecorded", "narrow", "logout"]
 
 
 def main():
-    names = ("sam", "kim", "lou", "ann", "bob", "cid", "dora", "fay", "gus", MARKUP)
+    names = ("sam", "kim", "lou", "ann", "bob", "cid", "dora", "fay", "gus", "joe", "lea", "max", MARKUP)
     tokens = {name: Token(name, is_event=name != "bob") for name in names}
+    tokens.update(tom=Token("tom", type="HOTP/T60/8/SHA256"), eli=Token("eli", type="HOTP/E/8"))
     return browsing.run(__doc__, "trial/helpdesk", PARTS, lambda folder: Site(folder, tokens.values(), names[:3]),
                         lambda site, browser: Test(site, tokens, browser))
 

@@ -1,11 +1,14 @@
 """A site on this machine: three nodes by names with --reload, nginx with TLS, and the helpdesk, on free ports."""
 import base64
+import contextlib
+import hashlib
 import os
 import secrets
 import shutil
 import socket
 import subprocess
 import sys
+import threading
 import time
 from pathlib import Path
 
@@ -34,20 +37,25 @@ for line in sys.stdin:
 class Token:
     """A token in the hand of one user. It never gives a code twice."""
 
-    def __init__(self, name, is_event=True, password="-"):
-        self.name, self.is_event, self.password, self.next = name, is_event, password, 0
+    def __init__(self, name, is_event=True, password="-", type=None):
+        self.name, self.password, self.next = name, password, 0
+        self.type = type or ("HOTP" if is_event else "HOTP/T30")
+        _, kind, digits, hash, *_ = (self.type + "/////").split("/")
+        self.is_event, self.period = not kind.startswith("T"), int(kind[1:] or 30)
+        self.digits, self.hash = int(digits or 6), hash.lower() or "sha1"
         # A secret of its own, so that a log in which it is found has it from nowhere else.
         self.secret = secrets.token_bytes(20)
 
     def row(self):
-        return "HOTP%s %s %s %s\n" % ("" if self.is_event else "/T30", self.name, self.password, self.secret.hex())
+        return "%s %s %s %s\n" % (self.type, self.name, self.password, self.secret.hex())
 
     def code(self):
-        factor = self.next if self.is_event else max(self.next, int(time.time()) // 30)
-        while not self.is_event and int(time.time()) // 30 < factor:
+        step = lambda: int(time.time()) // self.period
+        factor = self.next if self.is_event else max(self.next, step())
+        while not self.is_event and step() < factor:
             time.sleep(0.5)
         self.next = factor + 1
-        return code(self.secret, factor)
+        return code(self.secret, factor, self.digits, getattr(hashlib, self.hash))
 
 
 class Site:
@@ -231,6 +239,39 @@ class Site:
         os.chown(new, users.stat().st_uid, users.stat().st_gid)
         new.rename(users)
 
+    @contextlib.contextmanager
+    def closed(self, *nodes):
+        """Lets nobody put a file at these members meanwhile."""
+        places = [self.folder / "members" / str(node) for node in nodes]
+        owner = places[0].owner()
+        for place in places:
+            place.chmod(0o555)
+            shutil.chown(place, "root" if IS_ROOT else owner)
+        try:
+            yield
+        finally:
+            for place in places:
+                shutil.chown(place, owner)
+                place.chmod(0o755)
+
+    @contextlib.contextmanager
+    def record_closed_after(self, text):
+        """Lets nobody write the record after it has a line with a text."""
+        record, is_over = self.desk / "record", threading.Event()
+
+        def close():
+            while text not in record.read_text() and not is_over.is_set():
+                time.sleep(0.01)
+            record.chmod(0o400)
+        closing = threading.Thread(target=close)
+        closing.start()
+        try:
+            yield
+        finally:
+            is_over.set()
+            closing.join()
+            record.chmod(0o600)
+
     def put_by_hand(self, text):
         """Changes the users file everywhere, as an operator does."""
         self.by_hand(text)
@@ -253,6 +294,15 @@ class Site:
         """Returns all logs and records of the site."""
         names = ["logins", "faults", "error.log", "access.log", "desk/record", *("log.%d" % node for node in NODES)]
         return [self.folder / name for name in names]
+
+    def crash_desk(self):
+        """Kills the service, and starts it again."""
+        process = self.processes.pop("desk")
+        process.kill()
+        process.wait()
+        (self.desk / "socket").unlink()
+        self.start_desk()
+        self.await_that(lambda: self.curl("/login")[0] == "200", "the site answers again")
 
     def stop(self, name):
         process = self.processes.pop(name)

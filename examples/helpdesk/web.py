@@ -12,6 +12,8 @@ REFUSED = "That was not right, or was used before, or came too soon. Wait for so
 UNDECIDED = "The cluster doesn't decide now. Try again in a minute, with the next code."
 FOREIGN = "Use the form of this page. Load it again, and repeat."
 OVER = "Your session is over. Log in, and repeat."
+UNNOTED = "The record could not be written. Tell whoever runs this site."
+NOT_BEGUN, NOT_IN = "Nothing was done. " + UNNOTED, "You are not logged in. " + UNNOTED
 HEADERS = {
     "Cache-Control": "no-store",
     "Content-Security-Policy": "default-src 'none'; style-src 'self'; script-src 'self'; connect-src 'self'; "
@@ -104,12 +106,27 @@ class Pages:
             time.sleep(max(0, begin + REFUSAL - time.monotonic()))
         return outcome, told
 
+    def note(self, who, act, user, outcome):
+        """Adds a line to the record. Returns "", or what a page says if the record can't be written: what was done
+        before is done, and a secret of it has to be shown."""
+        try:
+            self.record.write(who, act, user, outcome, address())
+        except OSError as fault:
+            self.login_log.error("the record could not be written: %s", fault)
+            return UNNOTED
+        return ""
+
     # ---- Pages
 
-    def page(self, template, title, session=None, **told):
-        notice = session.take_notice() if session else ""
+    def warning(self):
+        """Returns what all pages of a session say."""
+        return ""
+
+    def page(self, template, title, session=None, fault="", **told):
+        notice, alert = session.take_notice() if session else ("", "")
+        fault = " ".join(text for text in (fault, alert) if text)
         return render_template(template, title=title, site=self, session=session, notice=notice, path=request.path,
-                               token=self.sessions.form_token(self.cookie()), **told)
+                               token=self.sessions.form_token(self.cookie()), fault=fault, **told)
 
     def open_page(self, template, title, status=200, **told):
         """Returns a page for whoever comes. Its form wants a cookie, so the browser gets one."""
@@ -132,7 +149,8 @@ class Pages:
         return self.show_login(*told) if told else self.begin_session(user)
 
     def begin_session(self, user):
-        self.record.write(user, "log in", "", "done", address())
+        if self.note(user, "log in", "", "done"):
+            return self.show_login(NOT_IN, 503)
         self.sessions.end(self.cookie())
         answer = redirect("/", 303)
         # A new id: one that somebody planted before the login is worth nothing.
@@ -141,7 +159,7 @@ class Pages:
 
     def log_out(self):
         session = self.posted()
-        self.record.write(session.user, "log out", "", "done", address())
+        self.note(session.user, "log out", "", "done")
         return self.end_session(redirect("/login", 303))
 
     def end_session(self, answer):

@@ -158,8 +158,9 @@ class Exporter:
 
 
 class Page(BaseHTTPRequestHandler):
-    """The page /metrics."""
-    protocol_version, server_version, sys_version, timeout = "HTTP/1.1", "wakdulg-exporter", "", 10
+    """The page /metrics. By HTTP/1.0 each connection has one answer and ends. The body of a request is never read, so
+    it must not be taken for the next request of the connection."""
+    protocol_version, server_version, sys_version, timeout = "HTTP/1.0", "wakdulg-exporter", "", 10
 
     def do_GET(self):
         is_there = self.path.split("?")[0] == "/metrics"
@@ -167,6 +168,7 @@ class Page(BaseHTTPRequestHandler):
         self.send_response(200 if is_there else 404)
         self.send_header("Content-Type", "text/plain; version=0.0.4; charset=utf-8")
         self.send_header("Content-Length", str(len(text.encode())))
+        self.send_header("Connection", "close")
         self.end_headers()
         self.wfile.write(text.encode())
 

@@ -181,11 +181,32 @@ class Csv(Case):
         self.assertEqual((printed, status), ("would add bob: HOTP/E/6, 2 bytes, %s line 2\n" % file, 1))
         names = ["BadSecret", "UnknownType", "DuplicateUser", "DuplicateUser", "DuplicateSecret", "BadName", "NameTooLong", "NoUser",
                  "BadDigits", "NoSecret", "NoType", "BadNumber", "DuplicateSecret"]
-        self.assertEqual([line.split(": ")[1:3] for line in said.splitlines()],
+        self.assertEqual([line.split(": ")[1:3] for line in said.splitlines() if ": note: " not in line],
                          [["%s line %d" % (file, number), name] for number, name in enumerate(names, 3)])
         self.refused("BadSecret", "csv", file)
         self.assertEqual(self.run_it("csv", file, "--part")[2], 0)
         self.assertEqual(sorted(self.rows()), ["ann", "bob"])
+
+    def test_one_secret_for_two_users(self):
+        """A vendor's file in upper case, and one that fills the secret with zeros, have the same device."""
+        words = "--columns", "secret,user", "--type", "hotp"
+        self.put("users", "HOTP  ann - 00fF 7\nHOTP\tdan\t-\t31323334\n")
+        for secret, user, line in ("00FF", "ann", 1), ("31323334", "dan", 2), ("3132333400", "dan", 2):
+            said = self.refused("DuplicateSecret", "csv", self.put("v.csv", "32,bob\n%s,carol\n" % secret), *words)
+            self.assertIn("v.csv line 2: DuplicateSecret: carol has the secret of %s (line %d of the users file), and each would take "
+                          "the other's codes\nonboard: nothing is written\n" % (user, line), said)
+        file = self.put("v.csv", "3233,bob\n34,carol\n3233,erin\n")
+        said = self.refused("DuplicateSecret", "csv", file, *words)
+        self.assertIn("%s line 3: DuplicateSecret: erin has the secret of bob (%s line 1), and" % (file, file), said)
+        self.refused("DuplicateSecret", "pskc", self.put("f.xml", (SAMPLES / "figure-2.xml").read_text().replace("MTIzNA==", "MTIzNAA=")),
+                     "--name-by-serial")
+        self.done("csv", self.put("v.csv", "0031323334,bob\n"), *words)
+
+    def test_a_short_secret_has_a_note(self):
+        file = self.put("v.csv", "%s,bob\n%s,carol\n" % ("31" * 15, "32" * 16))
+        printed, said, status = self.run_it("csv", file, "--columns", "secret,user", "--type", "hotp")
+        self.assertEqual((status, said), (0, "onboard: %s line 1: note: the secret of bob has 15 bytes, and RFC 4226 wants 16 or more\n" % file))
+        self.assertEqual(printed.count("added"), 2)
 
     def test_columns_without_a_header(self):
         self.done("csv", SAMPLES / "oath.csv", "--columns", "serial,secret,type,digits,period", "--owners", SAMPLES / "owners.csv",
@@ -283,17 +304,134 @@ class Phone(Case):
         self.assertIn("secret=", (self.folder / "input").read_text())
 
 
+class Change(Case):
+    """Rows that go, and rows that get another secret."""
+    ROWS = ("# people of Berlin\nHOTP\tdan\t-\t3031\t5\nHOTP  dan.smith  -  3032\n# 3000000002\n HOTP/T60/8/SHA256 \teve\tword\t3033\r\n"
+            "hotp fay - 3034\nHOTP/E/7 daN + 3035 9 1234567 2026-11-29\nHOTP/T30\tdane\t-\t3036")
+    USERS = "dan", "dan.smith", "eve", "daN", "dane"
+
+    def setUp(self):
+        super().setUp()
+        self.put("users", self.ROWS)
+
+    def lines(self):
+        return self.users.read_bytes().decode().split("\n")
+
+    def test_a_user_is_retired_whatever_blanks_the_row_has(self):
+        for gone in self.USERS:
+            self.put("users", self.ROWS)
+            before = self.lines()
+            printed = self.done("retire", gone)
+            self.assertRegex(printed, "^retired %s: HOTP[/A-Z0-9]*, line [0-9]+[^\n]*\n$" % gone)
+            kept = [line for line in before if line.split()[1:2] != [gone] and not (gone == "eve" and line == "# 3000000002")]
+            self.assertEqual(self.lines(), kept)
+            self.assertEqual(sorted(self.rows()), sorted({*self.USERS} - {gone}))
+
+    def test_the_serial_number_goes_with_the_token(self):
+        self.assertEqual(self.done("retire", "eve"), "retired eve: HOTP/T60/8/SHA256, line 5, without the remark # 3000000002\n")
+        self.assertNotIn("3000000002", self.users.read_text())
+        self.put("users", "HOTP ann - 30\n# the phones of Berlin\nHOTP bob - 31\n")
+        self.assertEqual(self.done("retire", "bob"), "retired bob: HOTP, line 3\n")
+        self.assertEqual(self.lines(), ["HOTP ann - 30", "# the phones of Berlin", ""])
+
+    def test_what_is_enrolled_can_be_retired(self):
+        self.done("phone", "gus", "--issuer", "Site", "--uri")
+        self.done("csv", self.put("v.csv", "3000000009,3040,hal\n"), "--columns", "serial,secret,user", "--type", "hotp")
+        for user in "gus", "hal":
+            self.done("retire", user)
+        self.assertEqual(self.users.read_bytes().decode(), self.ROWS + "\n")
+
+    def test_no_row_and_two(self):
+        for command in ("retire",), ("replace", "--issuer", "Site", "--uri"):
+            for user in "bob", "da", "DAN", "dan ", " dan", "", "dan\t", "HOTP", "-", "fay", "3000000002", "of":
+                said = self.refused("NoRow", command[0], *command[1:], "--", user)
+                self.assertIn("users: NoRow: no row is that of %s\n" % user, said)
+            self.users.write_text(self.ROWS + "\nHOTP dan - 3039\n")
+            self.assertIn("users: DuplicateUser: lines 2, 9 are rows of dan: ", self.refused("DuplicateUser", command[0], *command[1:], "dan"))
+            self.users.write_text(self.ROWS)
+        for words in ("retire",), ("retire", "dan", "dan"), ("replace", "dan", "--uri"), ("replace", "dan", "--issuer", "Site"):
+            self.assertEqual(self.run_it(*words)[2], 2)
+        self.users.unlink()
+        self.assertEqual(self.run_it("retire", "dan")[1:], ("onboard: %s: No such file or directory\n" % self.users, 1))
+
+    def test_the_last_row(self):
+        self.put("users", "# phones\nHOTP\tdan\t-\t3031\n")
+        self.assertIn("dan would log in as before: stop the nodes", self.refused("LastRow", "retire", "dan"))
+
+    def test_a_token_is_replaced_by_one_of_its_kind(self):
+        kinds = {"dan": (b"0", "hotp", "digits=6&counter=0", 20), "dan.smith": (b"0", "hotp", "digits=6&counter=0", 20),
+                 "eve": (None, "totp", "algorithm=SHA256&digits=8&period=60", 32), "daN": (b"0", "hotp", "digits=7&counter=0", 20),
+                 "dane": (None, "totp", "algorithm=SHA1&digits=6&period=30", 20)}
+        before = {row.user: row for row in read_rows(self.users.read_bytes())}
+        secrets = set()
+        for user, (counter, kind, told, length) in kinds.items():
+            printed, uri = self.done("replace", user, "--issuer", "Site", "--uri").splitlines()
+            self.assertRegex(printed, "^replaced %s: HOTP/[/A-Z0-9]+, %d bytes, line [0-9]" % (user, length))
+            row = {row.user: row for row in read_rows(self.users.read_bytes())}[user.encode()]
+            old = before[user.encode()]
+            self.assertEqual((row.type, row.password, row.rest), (old.type, old.password, [counter] if counter else []))
+            secret = read_secret(uri.split("secret=")[1].split("&")[0], "base32", "")
+            self.assertEqual((row.secret.decode(), len(secret)), (secret.hex(), length))
+            self.assertTrue(uri.startswith("otpauth://%s/Site:%s?" % (kind, user)), uri)
+            self.assertIn(told, uri)
+            secrets.add(secret)
+        self.assertEqual([row.user.decode() for row in read_rows(self.users.read_bytes())], list(self.USERS))
+        self.assertEqual((len(secrets), self.lines()[4], len(self.lines())), (5, "hotp fay - 3034", 7))
+        self.assertNotIn("3000000002", self.users.read_text())
+
+    @unittest.skipUnless(shutil.which("qrencode"), "needs qrencode")
+    def test_a_picture_of_the_new_secret(self):
+        picture = self.folder / "q.png"
+        self.refused("NoRow", "replace", "bob", "--issuer", "Site", "--png", picture)
+        self.assertFalse(picture.exists())
+        self.done("replace", "dan", "--issuer", "Site", "--png", picture, "--account", "dan@example.org")
+        self.assertEqual((picture.read_bytes()[:8], stat.S_IMODE(picture.stat().st_mode)), (b"\x89PNG\r\n\x1a\n", 0o600))
+        self.assertIn("\u2580", self.done("replace", "dan", "--issuer", "Site", "--terminal"))
+
+    def test_a_name_that_is_no_utf_8(self):
+        self.users.write_bytes(b"HOTP ann - 30\nHOTP\tren\xe9\t-\t31\n")
+        self.assertIn("otpauth://hotp/Site:rene?", self.done("replace", b"ren\xe9", "--issuer", "Site", "--uri", "--account", "rene"))
+        self.assertIn(b"HOTP\tren\xe9\t-\t", self.users.read_bytes())
+        self.done("retire", b"ren\xe9")
+        self.assertEqual(self.users.read_bytes(), b"HOTP ann - 30\n")
+
+    def test_mode_owner_lock_and_link(self):
+        for words in ("retire", "dan"), ("replace", "eve", "--issuer", "Site", "--uri"):
+            File.test_mode_owner_and_link_stay(self, words)
+            (self.folder / "link").unlink()
+        folder = os.open(self.folder, os.O_RDONLY)
+        self.addCleanup(os.close, folder)
+        fcntl.flock(folder, fcntl.LOCK_EX)
+        for words in ("retire", "eve"), ("replace", "eve", "--issuer", "Site", "--uri"):
+            self.refused("Locked", *words)
+
+    def test_a_dry_run_and_a_file_that_oathd_refuses(self):
+        before = self.users.read_bytes()
+        self.assertEqual(self.done("retire", "dane", "--dry-run"), "would retire dane: HOTP/T30, line 8\n")
+        self.assertEqual(self.done("replace", "dane", "--issuer", "Site", "--uri", "--dry-run"),
+                         "would replace dane: HOTP/T30/6, 20 bytes, line 8\n")
+        self.assertEqual(self.users.read_bytes(), before)
+        self.users.write_bytes(before + b"\nHOTP gus - 30303\n")
+        self.assertIn("oathd: users line 8: BadSecret", self.refused("refuses the new file", "retire", "dan"))
+        self.done("retire", "gus")
+
+    def test_what_members_compare(self):
+        self.put("cluster", self.cluster.read_text() + "names word-of-a-trial\n")
+        for words in ("retire", "dan"), ("replace", "eve", "--issuer", "Site", "--uri"):
+            self.assertRegex(self.done(*words, "--cluster", self.cluster), "\nfingerprint [0-9a-f]{16}\nbook [0-9a-f]{16}\n")
+
+
 class File(Case):
     WORDS = ("csv", SAMPLES / "oath.csv", "--columns", "user,secret,type,digits,period")
 
-    def test_mode_owner_and_link_stay(self):
+    def test_mode_owner_and_link_stay(self, words=WORDS):
         self.users.chmod(0o640)
         if os.geteuid() == 0:
             os.chown(self.users, 1, 1)
         link = self.folder / "link"
         link.symlink_to(self.users)
         before, inode = self.users.stat(), self.users.stat().st_ino
-        self.assertEqual(self.run_it(*self.WORDS, users=link)[2], 0)
+        self.assertEqual(self.run_it(*words, users=link)[2], 0)
         after = self.users.stat()
         self.assertEqual((after.st_mode, after.st_uid, after.st_gid), (before.st_mode, before.st_uid, before.st_gid))
         self.assertNotEqual(after.st_ino, inode)

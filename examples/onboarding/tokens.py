@@ -8,6 +8,8 @@ from dataclasses import dataclass
 # What stands in a users file before a field, and the types that its rows have.
 BLANKS = re.compile(rb"[ \t\r]+")
 TYPE = re.compile(rb"HOTP(?:/E(?:/[678])?)?|HOTP/T(?:30|60)(?:/[678](?:/SHA(?:256|512))?)?")
+# The remark above a row, if the token has a serial number.
+SERIAL = re.compile(rb"# (\S+)\r?")
 KINDS = {"hotp": "hotp", "hmac": "hotp", "event": "hotp", "totp": "totp", "time": "totp", "timebased": "totp"}
 HASHES = {"sha1": "SHA1", "sha256": "SHA256", "sha512": "SHA512"}
 NO_COUNTER = 2 ** 62
@@ -63,6 +65,20 @@ class Token:
         for name, is_fault, detail in faults:
             if is_fault:
                 raise Fault(self.place, name, detail)
+
+
+def read_type(word):
+    """Returns the kind, the digits, the period and the hash of a row's type, as a token has them."""
+    fields = word.decode().split("/")[1:]
+    first, digits, hash = fields + ["E", "6", "SHA1"][len(fields):]
+    kind = {"kind": "hotp"} if first == "E" else {"kind": "totp", "period": int(first[1:])}
+    return {**kind, "digits": int(digits), "hash": hash}
+
+
+def device_of(secret):
+    """Returns what all secrets of one device have in common: HMAC fills a key with zeros, so more of them change no
+    code. The secret is in hexadecimal."""
+    return secret.lower().rstrip("0")
 
 
 def read_secret(text, form, place):

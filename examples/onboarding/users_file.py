@@ -1,11 +1,11 @@
-"""Adds rows to a users file: all of them or none, in a new file that takes the place of the old one."""
+"""Changes a users file: all of its rows that have to, or none, in a new file that takes the place of the old one."""
 import contextlib
 import fcntl
 import os
 import stat
 import subprocess
 
-from tokens import Fault, read_rows
+from tokens import SERIAL, Fault, read_rows
 
 
 class UsersFile:
@@ -29,6 +29,25 @@ class UsersFile:
         """Returns the text of the new file: the old bytes, an LF if they lack it, and the rows."""
         gap = b"\n" if self.text and not self.text.endswith(b"\n") else b""
         return self.text + gap + b"".join(rows)
+
+    def row_of(self, user):
+        """Returns the one row whose second field is the user, byte for byte."""
+        rows = [row for row in self.rows if row.user == user]
+        name = user.decode("utf-8", "replace")
+        if not rows:
+            raise Fault(self.name, "NoRow", "no row is that of %s" % name)
+        if len(rows) > 1:
+            lines = ", ".join(str(row.line) for row in rows)
+            raise Fault(self.name, "DuplicateUser", "lines %s are rows of %s: leave the right one" % (lines, name))
+        return rows[0]
+
+    def text_without(self, row, new=None):
+        """Returns the text of the new file without a row, or with a new one in its place, and the serial number of the
+        remark above it, or None. The remark goes with the token."""
+        lines, at = self.text.split(b"\n"), row.line - 1
+        remark = SERIAL.fullmatch(lines[at - 1]) if at else None
+        lines[at - bool(remark):at + 1] = [] if new is None else [new]
+        return b"\n".join(lines), remark and remark[1].decode("utf-8", "replace")
 
     def replace(self, text):
         """Writes the text beside the file, with the mode and the owner of the file, and renames it."""

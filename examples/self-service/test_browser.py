@@ -8,7 +8,6 @@ FOLDER (trial/self-service in the checkout). The last line counts. OATHD and OAT
 """
 import base64
 import re
-import shutil
 import subprocess
 import sys
 import time
@@ -18,8 +17,8 @@ HERE = Path(__file__).resolve().parent
 sys.dont_write_bytecode = True
 sys.path.insert(0, str(HERE.parent / "helpdesk"))
 import browsing
-from browsing import Window, await_answer, expect, settle
-from trial_site import IS_ROOT, OATHTOOL, Site, Token
+from browsing import Window, await_answer, await_that, expect, settle
+from trial_site import OATHTOOL, Site, Token
 from otp import code
 from selenium.webdriver.common.by import By
 
@@ -38,10 +37,10 @@ class UsersSite(Site):
 class Client(Window):
     """A browser without JavaScript, in which a user logs in by one call."""
 
-    def replace(self):
+    def replace(self, **more):
         """Replaces the phone. Returns the status, and the new secret that the next page shows."""
         self.ask("/replace")
-        status = self.post("/replace", seen=self.seen)
+        status = self.post("/replace", seen=self.seen, **more)
         found = re.search('id="secret">([^<]*)', self.ask("/phone")[1]) if status == "303" else None
         return status, secret_of(found[1]) if found else None
 
@@ -168,7 +167,7 @@ class Test:
         expect("the record", '"resynchronized at factor 41"' in self.site.read("desk/record"), True)
 
     def replace(self):
-        """A new phone: shown once, confirmed by its first code, and the old one is refused."""
+        """A new phone: shown until its first code confirms it, and the old one is refused."""
         browser, ann, old = self.browser, self.tokens["ann"], self.row("ann")
         browser.log_in(ann)
         browser.press("Replace the phone")
@@ -190,20 +189,15 @@ class Test:
         print("in use %.0f s after the click" % (time.monotonic() - begin))
         expect("the old phone", self.answer("ann", code(ann.secret, 1)), "INVALID")
         expect("the next code of the new phone", self.answer("ann", by_oathtool("-c", "1", raw.hex())), "OK 1")
-        browser.press("Log in")
-        expect("the session is over", browser.path(), "/login")
 
     def refuse_and_confirm(self, token, raw):
         browser = self.browser
         browser.fill("Password", "wrong")
         browser.fill("A code of the new phone", "000000")
         browser.press("Confirm")
-        told = browser.text()
-        expect("a wrong password", ("didn't accept that code" in told, "was shown once" in told), (True, True))
-        expect("the secret isn't shown again", raw.hex() in browser.driver.page_source
-               or base64.b32encode(raw).decode()[:20] in browser.driver.page_source.replace(" ", ""), False)
-        browser.driver.back()
-        expect("Back doesn't show it", browser.driver.find_elements(By.ID, "once"), [])
+        expect("a wrong password", "didn't accept that code" in browser.text("[role=alert]"), True)
+        expect("the secret is shown still", secret_of(browser.text("#secret")), raw)
+        expect("with its QR code", len(browser.driver.find_elements(By.CSS_SELECTOR, "svg[role=img]")), 1)
         settle(self.site)
         # The wrong password may have closed the token.
         time.sleep(6)
@@ -214,6 +208,16 @@ class Test:
         expect("the new phone", browser.text("h1"), "The new phone is in use")
         browser.picture("in-use")
         browser.expect_narrow("in-use")
+        self.expect_no_page_with(raw)
+
+    def expect_no_page_with(self, raw):
+        """Looks whether a page has the secret after the session."""
+        browser = self.browser
+        page = browser.driver.page_source.replace(" ", "")
+        expect("no secret on the page", raw.hex() in page or base64.b32encode(raw).decode()[:20] in page, False)
+        browser.open("/phone")
+        expect("nor later", (browser.path(), browser.driver.find_elements(By.ID, "once")), ("/login", []))
+        browser.open("/login")
 
     def time_token(self):
         """A phone with a time token is replaced by one."""
@@ -225,6 +229,37 @@ class Test:
         settle(self.site)
         told = client.post("/phone", code=by_oathtool("--totp", raw.hex()), password=bob.password)
         expect("confirmed", (told, client.ask("/")[0]), ("200", "303"))
+
+    def kind(self):
+        """A new phone has the digits, the steps and the hash of the old one."""
+        client, tom = Client(self.site), self.tokens["tom"]
+        expect("logged in", client.log_in(tom), "303")
+        status, raw = client.replace(kind="hotp")
+        row, page = self.row("tom"), client.ask("/phone")[1].replace("&amp;", "&")
+        expect("the row", (status, row[0], row[2], row[3]), ("303", tom.type, tom.password, raw.hex()))
+        expect("what the page says", "time token, steps of 60 s, 8 digits, SHA-256" in page, True)
+        expect("what the link says", re.findall("algorithm=[^<]*", page), ["algorithm=SHA256&digits=8&period=60"])
+        settle(self.site)
+        told = client.post("/phone", code=by_oathtool("--totp=sha256", "-d", "8", "-s", "60s", raw.hex()),
+                           password=tom.password)
+        expect("confirmed", (told, client.ask("/")[0]), ("200", "303"))
+
+    def unrecorded(self):
+        """A record that can't be written: nothing is begun. If the act is done already, its secret is shown."""
+        client, ole = Client(self.site), self.tokens["ole"]
+        expect("logged in", client.log_in(ole), "303")
+        with self.site.record_closed_after(""):
+            time.sleep(1)
+            expect("an act isn't begun", (client.replace()[0], self.row("ole")[3]), ("503", ole.secret.hex()))
+            other = Client(self.site)
+            expect("nor a session", other.log_in(self.tokens["pam"]), "503")
+        with self.site.record_closed_after('"act": "replace", "user": "ole", "outcome": "begins"'):
+            client.ask("/replace")
+            status = client.post("/replace", seen=client.seen)
+        page = client.ask("/phone")[1]
+        shown = re.search('id="secret">([^<]*)', page)
+        expect("the secret is shown", (status, shown and secret_of(shown[1]).hex()), ("303", self.row("ole")[3]))
+        expect("and the fault", "The record could not be written" in page, True)
 
     def late(self):
         """No code of the new phone is accepted for a while."""
@@ -285,8 +320,10 @@ class Test:
         expect("replaced", client.post("/replace", seen=client.seen), "303")
         head = self.site.curl("/phone", "-I", "-H", "Cookie: " + client.cookie)
         expect("a head", (head[0], head[2]), ("200", ""))
-        told = ['id="secret"' in client.ask("/phone")[1] for _ in range(2)]
-        expect("then the secret is shown, once", told, [True, False])
+        expect("then the secret is shown", 'id="secret"' in client.ask("/phone")[1], True)
+        client.ask("/replace")
+        expect("log out", client.post("/logout"), "303")
+        expect("and no more", client.ask("/phone")[0], "303")
 
     def foreign_forms(self, client):
         good = {"token": client.token, "seen": client.seen}
@@ -315,27 +352,25 @@ class Test:
 
     def not_copied(self):
         """A member to which the file isn't copied."""
-        browser, lea, place = self.browser, self.tokens["lea"], self.site.folder / "members/3"
-        owner, before = place.owner(), self.site.book_of_file(3)
+        browser, lea = self.browser, self.tokens["lea"]
+        before = self.site.book_of_file(3)
         settle(self.site)
-        place.chmod(0o555)
-        if IS_ROOT:
-            shutil.chown(place, "root")
-        browser.log_in(lea)
-        browser.open("/replace")
-        browser.press("Replace the phone")
-        shutil.chown(place, owner)
-        place.chmod(0o755)
-        expect("what is said", "isn't known to all members" in browser.text("[role=status]"), True)
-        raw = secret_of(browser.text("#secret"))
-        settle(self.site, 1, 2)
-        expect("member 3 has the old file", self.site.book_of(3), before)
-        subprocess.run(self.site.push(), shell=True, check=True)
+        with self.site.closed(3):
+            browser.log_in(lea)
+            browser.open("/replace")
+            browser.press("Replace the phone")
+            expect("what is said", "isn't known to all members" in browser.text("[role=status]"), True)
+            raw = secret_of(browser.text("#secret"))
+            settle(self.site, 1, 2)
+            expect("member 3 has the old file", self.site.book_of(3), before)
+        await_that("it is copied again", lambda: (self.site.desk / "users.pending").exists(), False, 120)
         settle(self.site)
+        browser.open("/phone")
+        expect("and the page says so", "isn't known to all members" in browser.text(), False)
         browser.fill("Password", lea.password)
         browser.fill("A code of the new phone", by_oathtool("-c", "0", raw.hex()))
         browser.press("Confirm")
-        expect("after push-users", browser.text("h1"), "The new phone is in use")
+        expect("after that", browser.text("h1"), "The new phone is in use")
 
     def down(self):
         """A member is down, then two."""
@@ -369,13 +404,15 @@ class Test:
         expect("the self-service had no fault", self.site.read("faults"), "")
 
 
-PARTS = ["off", "login", "resync", "replace", "time_token", "late", "markup", "hostile", "not_copied", "down", "end"]
+PARTS = ["off", "login", "resync", "replace", "time_token", "kind", "unrecorded", "late", "markup", "hostile",
+         "not_copied", "down", "end"]
 
 
 def main():
-    names = "fay gus hal ida ann bob cid joe kim pia lea mia nia max sam".split() + [MARKUP]
+    names = "fay gus hal ida ann bob cid joe kim pia lea mia nia max ole pam sam".split() + [MARKUP]
     tokens = {name: Token(name, name != "bob", "word-%d-of-a-user" % number) for number, name in enumerate(names)}
     tokens.update(dan=Token("dan"), eli=Token("eli", password="+"))
+    tokens.update(tom=Token("tom", password="word-of-tom", type="HOTP/T60/8/SHA256"))
     return browsing.run(__doc__, "trial/self-service", PARTS,
                         lambda folder: UsersSite(folder, tokens.values(), ["sam"]),
                         lambda site, browser: Test(site, tokens, browser))

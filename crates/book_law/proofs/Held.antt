@@ -213,7 +213,7 @@ module _ (setting : Setting) (e from number floor : ℕ) (l : Envelope) (is : l.
 -- ---- a history
 
 -- the state after one action more
-one_more : (setting : Setting) (first k : ℕ) (history : List Action) (state : State) (d : Action) → slice_get history k ≡ Some d
+pub one_more : (setting : Setting) (first k : ℕ) (history : List Action) (state : State) (d : Action) → slice_get history k ≡ Some d
     → (e : ℕ) × (state_after setting first (take (suc k) history) state ≡ state_after_action setting e d (state_after setting first (take k history) state))
 unfolding state_after
 one_more setting first k [] state d at = absurd (none-some d at)

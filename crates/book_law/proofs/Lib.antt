@@ -22,3 +22,6 @@ pub mod Told
 pub mod Under
 pub mod Uses
 pub mod Walk
+pub mod Rows
+pub mod Seeds
+pub mod Openings

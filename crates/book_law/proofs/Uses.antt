@@ -16,7 +16,7 @@ use Rattle.book_law.proofs.Serving.{LeaveStore, LeavesStore, process_is_own, ser
 -- ---- one use
 
 -- a process from its opening to its stop
-served_leads : (setting : Setting) (node e : ℕ) (terms : Terms) (port : List ℕ) (found : Store) (taken : List NodeEvent) (entries : List PortEvent) (left : Content) (served rest : List Action)
+pub served_leads : (setting : Setting) (node e : ℕ) (terms : Terms) (port : List ℕ) (found : Store) (taken : List NodeEvent) (entries : List PortEvent) (left : Content) (served rest : List Action)
     → IsProcess setting node terms port found taken entries left → TakesAndOffers setting node terms port found taken entries served
     → (number : ℕ) × (own_process setting node e (Opens node terms ∷ served ++ Stops node ∷ rest) (Down found) ≡ own_process setting node number rest (Down (store_under terms.seats left found)))
 served_leads setting node e terms port found taken entries left served rest is does =

@@ -325,7 +325,7 @@ module _ (setting : Setting) where
     pub walked : Walked setting 0 history (first_state setting) (start told)
     walked = walk law setting 0 history (first_state setting) (start told) (first_holds told starts) g.genuine (first_told history starts)
 
-    taken : acceptances setting.n setting.tokens (opening told) walked.events ≡ accepted_in setting history
+    pub taken : acceptances setting.n setting.tokens (opening told) walked.events ≡ accepted_in setting history
     taken = holds_accepted (state_of setting history) (run 0 walked.events (start told)) walked.whole
 
     floors : floor_before setting.n setting.tokens (opening told) walked.events ≡ floor_in setting history

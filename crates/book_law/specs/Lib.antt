@@ -8,3 +8,5 @@ pub mod Promises
 pub mod Results
 pub mod Stretches
 pub mod Uses
+pub mod Seeds
+pub mod SeedExamples

@@ -6,6 +6,7 @@
 
 mod laws;
 mod part_laws;
+mod seed_laws;
 
 pub use laws::{
     answers_can_be_broken, books_are_safe, books_are_worked, books_can_be_broken,
@@ -15,4 +16,7 @@ pub use laws::{
 };
 pub use part_laws::{
     parts_are_worked, parts_can_be_broken, stretches_are_worked, stretches_can_be_broken,
+};
+pub use seed_laws::{
+    devices_are_safe, devices_can_be_broken, uses_of_devices_can_be_broken, uses_open_stores,
 };

@@ -14,8 +14,6 @@ mod laws;
 mod operator;
 mod reading;
 mod said;
-#[cfg(test)]
-mod tests;
 mod word;
 
 pub use clients::{ClientEntry, Clients, OperatorEntry};

@@ -10,8 +10,6 @@ mod counts;
 mod laws;
 mod members;
 mod port;
-#[cfg(test)]
-mod tests;
 
 pub use batches::Batches;
 pub use counts::Counts;

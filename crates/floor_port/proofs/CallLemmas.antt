@@ -9,7 +9,7 @@ use Rattle.datagram_port.specs.declared.port.Sender.{Sender}
 use Rattle.datagram_port.specs.declared.port.Sender.TheVariants.{Client, Peer}
 use Rattle.named_wire.specs.declared.head.Head.{Head}
 use Rattle.floor_port.specs.Claims.{is_fallen}
-use Rattle.floor_port.specs.Packer.{PackerRecord, StartRecord, after_datagram, after_event, after_held, after_member, after_offer, after_told, fall_by, floor_head, new_packer, next_bytes, told_at, told_by, turns_due, with_claims, with_others}
+use Rattle.floor_port.specs.Packer.{PackerRecord, StartRecord, after_datagram, after_event, after_held, after_member, after_offer, after_told, fall_by, floor_head, hearing, new_packer, next_bytes, told_at, told_by, turns_due, with_claims, with_others}
 use Rattle.floor_port.specs.Rows.{RowsRecord, after_news, after_turn, after_turns, after_witness, news}
 use Rattle.floor_port.specs.Runs.{Call, Came, Left, Offer, IsAfter, may_call, may_make, after, after_calls, at_start, below, below_events, handed, handed_events}
 use Rattle.floor_port.specs.declared.record.Record.{Record}
@@ -50,9 +50,9 @@ may_receive p Fault buffer none = none
 
 -- ---- no call changes the start
 
--- without members that went back, and without floors
+-- without members that went back, known boots and floors
 abbrev pub no_start : StartRecord
-no_start = record { gone_back = []; floors = [] }
+no_start = record { gone_back = []; known = []; floors = [] }
 
 turns_names : (rows : RowsRecord) (turns : ℕ) → (after_turns rows turns).names ≡ rows.names
 turns_names rows zero = refl
@@ -88,7 +88,7 @@ start_datagram p member told start = go (is_fallen p.claims member)
     go false = start_floors (with_claims p member told) member told (fall_by p member told) start ∙ start_claims p member told start
 
 start_event : (p : PackerRecord) (event : PortEvent) (start : StartRecord) → at_start (after_event p event) start ≡ at_start p start
-start_event p (Received (Peer member) bytes) start = start_datagram p member (told_by p member bytes) start
+start_event p (Received (Peer member) bytes) start = let heard = hearing p member bytes in start_datagram heard member (told_by heard member bytes) start
 start_event p (Received (Client number) bytes) start = refl
 start_event p Quiet start = ap (λ (names : List (List ℕ)). new_packer p.key names p.me p.boot p.members start) (turns_names p.rows (turns_due p))
 start_event p Faulted start = refl

@@ -8,7 +8,7 @@ use Rattle.datagram_port.specs.declared.port.Sender.TheVariants.{Client, Peer}
 use Rattle.named_wire.specs.declared.head.Head.{Head}
 use Rattle.node_log.specs.declared.gatekeeper.Fell.{Fell}
 use Rattle.floor_port.specs.Claims.{ClaimsRecord, claims_after, falls, fell_of, first_fall, is_fallen, is_older, kept_after, with_fallen, with_fell}
-use Rattle.floor_port.specs.Packer.{PackerRecord, after_datagram, after_held, fall_by, fell_at, told_by, with_claims}
+use Rattle.floor_port.specs.Packer.{PackerRecord, after_datagram, after_held, fall_by, fell_by, hearing, told_by, with_claims}
 use Rattle.floor_port.specs.Runs.{AreUntold, Call, Came, IsAfter, Left, Offer, after, after_calls, at_start, fell_before, fell_in, fells_over}
 use Rattle.floor_port.specs.declared.floor.NamedFloor.{NamedFloor}
 use Rattle.floor_port.specs.declared.record.Record.{Record}
@@ -73,14 +73,14 @@ counted_told : (p : PackerRecord) (member : ℕ) (bytes : List ℕ) (told : Opti
     → IsCounted p.claims.fallen (with_claims p member told).claims.fallen (fell_of member (fall_by p member told))
 counted_told p member bytes None e ten not_yet = counted_none p.claims.fallen ten
 counted_told p member bytes (Some told) e ten not_yet =
-    let s = sent_parts p.key member p.me bytes told e in
+    let s = sent_parts p.key p.heard member p.me bytes told e in
     let bounds = sender_bounds p.key bytes told.0 s.body s.reads in
     let high = bounds.1 in
     let from = s.from_is in
     counted_claims p.claims p.rows.names member told.0.boot told.1 ten (omega (arith, high, from)) not_yet
 
 counted_datagram : (p : PackerRecord) (member : ℕ) (bytes : List ℕ) → length p.claims.fallen ≡ 10
-    → IsCounted p.claims.fallen (after_datagram p member (told_by p member bytes)).claims.fallen (fell_at p (Received (Peer member) bytes))
+    → IsCounted p.claims.fallen (after_datagram p member (told_by p member bytes)).claims.fallen (fell_by p member (told_by p member bytes))
 counted_datagram p member bytes ten = go (is_fallen p.claims member) refl
   where
     told : Option (Head × List NamedFloor)
@@ -94,7 +94,7 @@ counted_datagram p member bytes ten = go (is_fallen p.claims member) refl
         (sym (floors_claims (with_claims p member told) member told (fall_by p member told))) (counted_told p member bytes told refl ten is)
 
 counted_one : (p : PackerRecord) (call : Call) → length p.claims.fallen ≡ 10 → IsCounted p.claims.fallen (after p call).claims.fallen (fell_in p call)
-counted_one p (Came (Received (Peer member) bytes)) ten = counted_datagram p member bytes ten
+counted_one p (Came (Received (Peer member) bytes)) ten = counted_datagram (hearing p member bytes) member bytes ten
 counted_one p (Came (Received (Client number) bytes)) ten = counted_none p.claims.fallen ten
 counted_one p (Came Quiet) ten = counted_none p.claims.fallen ten
 counted_one p (Came Faulted) ten = counted_none p.claims.fallen ten

@@ -5,13 +5,13 @@ use Rattle.std.proofs.lemmas.Bool.{and_parts, eqb-true, ltb-true, ltb-false}
 use Rattle.std.proofs.lemmas.List.{get_or-replicate, get_or_past}
 use Rattle.datagram_port.specs.Port.{PortEvent, Received, Quiet, Faulted, Offered}
 use Rattle.datagram_port.specs.declared.port.Sender.TheVariants.{Client, Peer}
-use Rattle.named_port.specs.Translator.{between}
+use Rattle.named_port.specs.Translator.{between, is_older}
 use Rattle.named_wire.specs.Datagram.{datagram_at, datagram_bytes}
 use Rattle.named_wire.specs.declared.head.Head.{Head}
 use Rattle.floor_port.specs.Floors.{floor_bytes, told_in}
 use Rattle.node_log.specs.declared.gatekeeper.Fell.{Fell}
 use Rattle.floor_port.specs.Claims.{ClaimsRecord, claims_after, fell_of, is_fallen, new_claims, no_claim, place_of}
-use Rattle.floor_port.specs.Packer.{PackerRecord, StartRecord, after_datagram, after_held, bytes_of, bytes_or, fall_by, fell_by, first_bytes, first_of, first_told, floor_head, floors_read, member_bytes, new_packer, tells_floors, told_by, with_claims, with_head, with_others}
+use Rattle.floor_port.specs.Packer.{PackerRecord, StartRecord, after_datagram, after_held, bytes_of, bytes_or, fall_by, fell_by, first_bytes, first_of, first_told, floor_head, floors_read, hearing, in_time, member_bytes, new_packer, tells_floors, told_by, with_claims, with_head, with_others}
 use Rattle.floor_port.specs.Pace.{after_heard}
 use Rattle.floor_port.specs.Promises.{Among, HandsIn, HasGoneBack, IsTold, WentBack}
 use Rattle.floor_port.specs.Rows.{after_floor, after_news, is_news, news}
@@ -37,40 +37,48 @@ some_fell x y e = cc
 
 -- ---- a datagram that tells floors
 
-pub record IsSent (key : List ℕ) (member me : ℕ) (bytes : List ℕ) (told : Head × List NamedFloor) : Type 0 where
+pub record IsSent (key heard : List ℕ) (member me : ℕ) (bytes : List ℕ) (told : Head × List NamedFloor) : Type 0 where
   pub body : List ℕ
   pub reads : datagram_at key bytes ≡ Some (told.0, body)
   pub from_is : told.0.from ≡ member
   pub to_is : told.0.to ≡ me
+  pub newer : is_older heard told.0 ≡ false
   pub tells : told_in told.0.kind body ≡ Some told.1
 
-pub sent_parts : (key : List ℕ) (member me : ℕ) (bytes : List ℕ) (told : Head × List NamedFloor)
-    → cond (tells_floors bytes) (floors_read (between member me (datagram_at key bytes))) None ≡ Some told → IsSent key member me bytes told
-sent_parts key member me bytes told e = by_kind (tells_floors bytes) e
+pub sent_parts : (key heard : List ℕ) (member me : ℕ) (bytes : List ℕ) (told : Head × List NamedFloor)
+    → cond (tells_floors bytes) (floors_read (in_time heard (between member me (datagram_at key bytes)))) None ≡ Some told → IsSent key heard member me bytes told
+sent_parts key heard member me bytes told e = by_kind (tells_floors bytes) e
   where
-    by_told : (read : Head × List ℕ) → datagram_at key bytes ≡ Some read → (eqb read.0.from member && eqb read.0.to me) ≡ true → (o : Option (List NamedFloor)) → told_in read.0.kind read.1 ≡ o
-        → with_head read.0 o ≡ Some told → IsSent key member me bytes told
-    by_told read at ends None tells is = absurd cc
-    by_told read at ends (Some floors) tells is =
+    by_told : (read : Head × List ℕ) → datagram_at key bytes ≡ Some read → (eqb read.0.from member && eqb read.0.to me) ≡ true → is_older heard read.0 ≡ false → (o : Option (List NamedFloor)) → told_in read.0.kind read.1 ≡ o
+        → with_head read.0 o ≡ Some told → IsSent key heard member me bytes told
+    by_told read at ends newer None tells is = absurd cc
+    by_told read at ends newer (Some floors) tells is =
         let parts = and_parts (eqb read.0.from member) (eqb read.0.to me) ends in
         let same : (read.0, floors) ≡ told = some_is (read.0, floors) told is in
-        subst (λ (t : Head × List NamedFloor). IsSent key member me bytes t) same (record {
+        subst (λ (t : Head × List NamedFloor). IsSent key heard member me bytes t) same (record {
           body = read.1;
           reads = at;
           from_is = eqb-true read.0.from member parts.0;
           to_is = eqb-true read.0.to me parts.1;
+          newer = newer;
           tells = tells;
         })
 
-    by_ends : (read : Head × List ℕ) → datagram_at key bytes ≡ Some read → (b : Bool) → (eqb read.0.from member && eqb read.0.to me) ≡ b → floors_read (cond b (Some read) None) ≡ Some told → IsSent key member me bytes told
-    by_ends read at false ends is = absurd cc
-    by_ends read at true ends is = by_told read at ends (told_in read.0.kind read.1) refl is
+    by_boot : (read : Head × List ℕ) → datagram_at key bytes ≡ Some read → (eqb read.0.from member && eqb read.0.to me) ≡ true → (older : Bool) → is_older heard read.0 ≡ older
+        → floors_read (cond older None (Some read)) ≡ Some told → IsSent key heard member me bytes told
+    by_boot read at ends true older is = absurd cc
+    by_boot read at ends false older is = by_told read at ends older (told_in read.0.kind read.1) refl is
 
-    by_read : (o : Option (Head × List ℕ)) → datagram_at key bytes ≡ o → floors_read (between member me o) ≡ Some told → IsSent key member me bytes told
+    by_ends : (read : Head × List ℕ) → datagram_at key bytes ≡ Some read → (b : Bool) → (eqb read.0.from member && eqb read.0.to me) ≡ b
+        → floors_read (in_time heard (cond b (Some read) None)) ≡ Some told → IsSent key heard member me bytes told
+    by_ends read at false ends is = absurd cc
+    by_ends read at true ends is = by_boot read at ends (is_older heard read.0) refl is
+
+    by_read : (o : Option (Head × List ℕ)) → datagram_at key bytes ≡ o → floors_read (in_time heard (between member me o)) ≡ Some told → IsSent key heard member me bytes told
     by_read None at is = absurd cc
     by_read (Some read) at is = by_ends read at (eqb read.0.from member && eqb read.0.to me) refl is
 
-    by_kind : (tells : Bool) → cond tells (floors_read (between member me (datagram_at key bytes))) None ≡ Some told → IsSent key member me bytes told
+    by_kind : (tells : Bool) → cond tells (floors_read (in_time heard (between member me (datagram_at key bytes)))) None ≡ Some told → IsSent key heard member me bytes told
     by_kind false is = absurd cc
     by_kind true is = by_read (datagram_at key bytes) refl is
 
@@ -102,7 +110,7 @@ from_member member bytes = Received (Peer member) bytes
 told_floors : (p : PackerRecord) (all : List Call) (member : ℕ) (bytes : List ℕ) (told : Head × List NamedFloor) → told_by p member bytes ≡ Some told → Among all (Came (from_member member bytes))
     → AreTold p.key p.me all (floor_head told.0) told.1
 told_floors p all member bytes told e came = λ floor h.
-    let s = sent_parts p.key member p.me bytes told e in
+    let s = sent_parts p.key p.heard member p.me bytes told e in
     record {
       datagram = bytes;
       came = subst (λ (n : ℕ). Among all (Came (from_member n bytes))) (sym s.from_is) came;
@@ -145,7 +153,7 @@ module _ (known : List Bool) where
       → IsSoundAt p all p.claims → AreTaken p.key known p.rows.names p.me all member (with_claims p member told).claims (fall_by p member told)
   taken_floors p all member bytes None e came sound = record { sound = sound; fell = λ floor is. absurd cc }
   taken_floors p all member bytes (Some told) e came sound =
-      let s = sent_parts p.key member p.me bytes told e in
+      let s = sent_parts p.key p.heard member p.me bytes told e in
       let bounds = sender_bounds p.key bytes told.0 s.body s.reads in
       let low = bounds.0 in
       let high = bounds.1 in
@@ -164,7 +172,7 @@ module _ (known : List Bool) where
       go false = subst (IsSoundAt p all) (sym (floors_claims (with_claims p member told) member told (fall_by p member told))) (taken_floors p all member bytes told refl came sound).sound
 
   sound_one : (p : PackerRecord) (all : List Call) (call : Call) → Among all call → IsSoundAt p all p.claims → IsSoundAt p all (after p call).claims
-  sound_one p all (Came (Received (Peer member) bytes)) made sound = sound_datagram p all member bytes made sound
+  sound_one p all (Came (Received (Peer member) bytes)) made sound = sound_datagram (hearing p member bytes) all member bytes made sound
   sound_one p all (Came (Received (Client number) bytes)) made sound = sound
   sound_one p all (Came Quiet) made sound = sound
   sound_one p all (Came Faulted) made sound = sound
@@ -215,7 +223,7 @@ module _ (known : List Bool) where
       → HandsIn p.key known p.me all (from_member member (bytes_or (first_told p told) bytes))
   hands_told p all member bytes None e came = inl came
   hands_told p all member bytes (Some told) e came =
-      let s = sent_parts p.key member p.me bytes told e in
+      let s = sent_parts p.key p.heard member p.me bytes told e in
       hands_first p.key p.me all member bytes (floor_head told.0) (news p.rows.names p.rows.known told.1) came s.from_is (told_news p all member bytes told e came)
 
   -- a datagram of a member that went back
@@ -246,7 +254,7 @@ module _ (known : List Bool) where
 
   hands_one : (p : PackerRecord) (all : List Call) (call : Call) → may_call p call ≡ true → Among all call → IsSoundAt p all p.claims → AreTold p.key p.me all p.pending.head p.pending.floors
       → HandsIn p.key known p.me all (handed p call)
-  hands_one p all (Came (Received (Peer member) bytes)) may made sound told = hands_datagram p all member bytes made sound
+  hands_one p all (Came (Received (Peer member) bytes)) may made sound told = hands_datagram (hearing p member bytes) all member bytes made sound
   hands_one p all (Came (Received (Client number) bytes)) may made sound told = inl made
   hands_one p all (Came Quiet) may made sound told = inl made
   hands_one p all (Came Faulted) may made sound told = inl made
@@ -288,7 +296,7 @@ module _ (known : List Bool) where
       go false = left_told p all member bytes told (fall_by p member told) refl came old
 
   left_one : (p : PackerRecord) (all : List Call) (call : Call) → Among all call → AreTold p.key p.me all p.pending.head p.pending.floors → KeepsTold p all (after p call)
-  left_one p all (Came (Received (Peer member) bytes)) made told = left_datagram p all member bytes made told
+  left_one p all (Came (Received (Peer member) bytes)) made told = left_datagram (hearing p member bytes) all member bytes made told
   left_one p all (Came (Received (Client number) bytes)) made told = told
   left_one p all (Came Quiet) made told = told
   left_one p all (Came Faulted) made told = told
@@ -336,7 +344,7 @@ module _ (known : List Bool) where
       by_fallen false same = by_fall (fall_by p member told) refl same
 
   fell_call : (p : PackerRecord) (all : List Call) (call : Call) → Among all call → IsSoundAt p all p.claims → (fell : Fell) → fell_in p call ≡ Some fell → WentBack p.key p.me all fell.member fell.name
-  fell_call p all (Came (Received (Peer member) bytes)) made sound fell e = fell_one p all member bytes made sound fell e
+  fell_call p all (Came (Received (Peer member) bytes)) made sound fell e = fell_one (hearing p member bytes) all member bytes made sound fell e
   fell_call p all (Came (Received (Client number) bytes)) made sound fell e = absurd cc
   fell_call p all (Came Quiet) made sound fell e = absurd cc
   fell_call p all (Came Faulted) made sound fell e = absurd cc

@@ -5,9 +5,11 @@ pub mod KeepLemmas
 pub mod OfferLemmas
 pub mod CallLemmas
 pub mod ClaimLemmas
+pub mod BootLemmas
 pub mod HandLemmas
 pub mod SilenceLemmas
 pub mod FellLemmas
 pub mod ToldLemmas
+pub mod TakenLemmas
 pub mod SpellingLemmas
 pub mod SetupLemmas

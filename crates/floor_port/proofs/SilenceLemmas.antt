@@ -4,10 +4,11 @@ use Rattle.std.specs.Prelude.{◌⊎◌, slice_index_or, slice_set}
 use Rattle.datagram_port.specs.Port.{PortEvent, Received, Quiet, Faulted, Offered}
 use Rattle.datagram_port.specs.declared.port.Sender.{Sender}
 use Rattle.datagram_port.specs.declared.port.Sender.TheVariants.{Client, Peer}
+use Rattle.named_port.specs.Runs.{boot_of}
 use Rattle.named_wire.specs.declared.head.Head.{Head}
 use Rattle.floor_port.specs.Claims.{ClaimsRecord, claims_after, falls, first_fall, is_fallen, is_older, kept_after, with_fallen}
 use Rattle.floor_port.specs.Pace.{after_heard}
-use Rattle.floor_port.specs.Packer.{PackerRecord, StartRecord, after_datagram, after_event, after_held, bytes_of, bytes_or, fall_by, first_bytes, floor_head, handed_in, member_bytes, new_packer, told_by, with_claims, with_others}
+use Rattle.floor_port.specs.Packer.{PackerRecord, StartRecord, after_datagram, after_event, after_held, bytes_of, bytes_or, fall_by, first_bytes, floor_head, handed_in, hearing, member_bytes, new_packer, sent_by, told_by, with_boot, with_claims, with_others}
 use Rattle.floor_port.specs.Promises.{Among}
 use Rattle.floor_port.specs.Rows.{after_news, news}
 use Rattle.floor_port.specs.Runs.{Call, Came, Left, Offer, after, after_calls, handed, handed_events}
@@ -21,12 +22,14 @@ no_bytes : (p : PackerRecord) (member : ℕ) (bytes : List ℕ) → is_fallen p.
 no_bytes p member bytes is = ap (λ (b : Bool). bytes_or (cond b (Some []) (bytes_of p (told_by p member bytes) (fall_by p member (told_by p member bytes)))) bytes) is
 
 pub silent_bytes : (p : PackerRecord) (member : ℕ) (bytes : List ℕ) → is_fallen p.claims member ≡ true → handed_in p (Received (Peer member) bytes) ≡ Received (Peer member) []
-silent_bytes p member bytes is = ap (λ (b : List ℕ). Received (Peer member) b) (no_bytes p member bytes is)
+silent_bytes p member bytes is = ap (λ (b : List ℕ). Received (Peer member) b) (no_bytes (hearing p member bytes) member bytes is)
 
 pub silent_same : (p : PackerRecord) (member : ℕ) (bytes : List ℕ) → is_fallen p.claims member ≡ true → after_event p (Received (Peer member) bytes) ≡ p
 silent_same p member bytes is =
-    let told = told_by p member bytes in
-    ap (λ (b : Bool). cond b p (after_held (with_claims p member told) member told (fall_by p member told))) is
+    let heard = hearing p member bytes in
+    let told = told_by heard member bytes in
+    ap (λ (b : Bool). cond b heard (after_held (with_claims heard member told) member told (fall_by heard member told))) is
+    ∙ ap (λ (b : Bool). record p { heard = cond b p.heard (with_boot p.heard member (boot_of (sent_by p member bytes))) }) is
 
 -- ---- a fallen member stays fallen
 
@@ -72,7 +75,7 @@ stays_datagram p member told m is = go (is_fallen p.claims member)
     go false = ap (λ (c : ClaimsRecord). is_fallen c m) (floors_claims (with_claims p member told) member told (fall_by p member told)) ∙ with_claims_stays p member told m is
 
 stays_one : (p : PackerRecord) (call : Call) (m : ℕ) → is_fallen p.claims m ≡ true → is_fallen (after p call).claims m ≡ true
-stays_one p (Came (Received (Peer member) bytes)) m is = stays_datagram p member (told_by p member bytes) m is
+stays_one p (Came (Received (Peer member) bytes)) m is = let heard = hearing p member bytes in stays_datagram heard member (told_by heard member bytes) m is
 stays_one p (Came (Received (Client number) bytes)) m is = is
 stays_one p (Came Quiet) m is = is
 stays_one p (Came Faulted) m is = is
@@ -103,7 +106,7 @@ silent_told p member bytes told (Some floor) e falls not_yet silent m is = inl r
 silent_told p member bytes None None e falls not_yet silent m is = silent m is
 silent_told p member bytes (Some told) None e none not_yet silent m is =
     let before : is_fallen p.claims m ≡ true = same_claims p.claims p.rows.names member told.0.boot told.1 m none is in
-    let from : told.0.from ≡ member = (sent_parts p.key member p.me bytes told e).from_is in
+    let from : told.0.from ≡ member = (sent_parts p.key p.heard member p.me bytes told e).from_is in
     others_silent (record p {
       claims = claims_after p.claims p.rows.names member told.0.boot told.1;
       pace = after_heard p.pace member (length p.rows.told);
@@ -123,7 +126,7 @@ silent_datagram p member bytes silent = go (is_fallen p.claims member) refl
         (sym (ap (λ (c : ClaimsRecord). is_fallen c m) (floors_claims (with_claims p member told) member told (fall_by p member told))) ∙ now)
 
 silent_one : (p : PackerRecord) (call : Call) → IsSilent p → IsSilent (after p call)
-silent_one p (Came (Received (Peer member) bytes)) silent = silent_datagram p member bytes silent
+silent_one p (Came (Received (Peer member) bytes)) silent = silent_datagram (hearing p member bytes) member bytes silent
 silent_one p (Came (Received (Client number) bytes)) silent = silent
 silent_one p (Came Quiet) silent = silent
 silent_one p (Came Faulted) silent = silent
@@ -167,7 +170,7 @@ same_member one two e = ap (λ (s : Sender). peer_or s 0) e
 silent_event : (p : PackerRecord) (call : Call) (m : ℕ) (bytes : List ℕ) → is_fallen p.claims m ≡ true → IsSilent p → handed p call ≡ Received (Peer m) bytes → bytes ≡ []
 silent_event p (Came (Received (Peer member) came)) m bytes is silent e =
     let same : member ≡ m = same_member member m (ap sender_of e) in
-    sym (ap bytes_in e) ∙ no_bytes p member came (ap (is_fallen p.claims) same ∙ is)
+    sym (ap bytes_in e) ∙ no_bytes (hearing p member came) member came (ap (is_fallen p.claims) same ∙ is)
 silent_event p (Came (Received (Client number) came)) m bytes is silent e = absurd (no_peer number m (ap sender_of e))
 silent_event p (Came Quiet) m bytes is silent e = absurd (no_peer 0 m (ap sender_of e))
 silent_event p (Came Faulted) m bytes is silent e = absurd (no_peer 0 m (ap sender_of e))

@@ -10,7 +10,7 @@ use Rattle.named_port.specs.Names.{number_of}
 use Rattle.named_wire.specs.declared.head.Head.{Head}
 use Rattle.floor_port.specs.Floors.{floors_body}
 use Rattle.floor_port.specs.Claims.{is_fallen}
-use Rattle.floor_port.specs.Packer.{PackerRecord, StartRecord, after_datagram, after_held, after_member, after_told, body_of, body_offers, fall_by, floor_head, floors_datagram, member_offer, new_packer, offers_of, told_by, turn_offers, turns_due, with_claims, with_others}
+use Rattle.floor_port.specs.Packer.{after_datagram, after_held, after_member, after_told, body_of, body_offers, fall_by, floor_head, floors_datagram, hearing, member_offer, new_packer, offers_of, PackerRecord, StartRecord, told_by, turn_offers, turns_due, with_claims, with_others}
 use Rattle.floor_port.specs.Promises.{Among, IsOwnFloor, IsWitnessed, TellsFloors}
 use Rattle.floor_port.specs.Rows.{RowsRecord, after_floor, after_floors, after_news, after_telling, after_turn, after_turns, after_witness, is_fresh, named_floors, news, next_floors, not_fresh, raised}
 use Rattle.floor_port.specs.Runs.{Call, Came, Left, Offer, after, after_calls, below, below_events, may_call, may_make}
@@ -111,7 +111,7 @@ witness_rise rows (Some floor) = record {
 }
 
 call_rise : (p : PackerRecord) (call : Call) → HaveRisen p.rows (after p call).rows
-call_rise p (Came (Received (Peer member) bytes)) = datagram_rise p member (told_by p member bytes)
+call_rise p (Came (Received (Peer member) bytes)) = let heard = hearing p member bytes in datagram_rise heard member (told_by heard member bytes)
 call_rise p (Came (Received (Client number) bytes)) = same_rise p.rows
 call_rise p (Came Quiet) = quiet_rise p.rows (turns_due p)
 call_rise p (Came Faulted) = same_rise p.rows
@@ -190,7 +190,7 @@ datagram_told p member told = go (is_fallen p.claims member)
     go false = fall_told (with_claims p member told) member told (fall_by p member told) ∙ ap (λ (rows : RowsRecord). rows.told) (claims_rows p member told)
 
 own_one : (p : PackerRecord) (floors : List ℕ) (all : List Call) (call : Call) → Among all call → AreOwn p.rows.names floors all p.rows.told → AreOwn p.rows.names floors all (after p call).rows.told
-own_one p floors all (Came (Received (Peer member) bytes)) made own = subst (AreOwn p.rows.names floors all) (sym (datagram_told p member (told_by p member bytes))) own
+own_one p floors all (Came (Received (Peer member) bytes)) made own = subst (AreOwn p.rows.names floors all) (sym (let heard = hearing p member bytes in datagram_told heard member (told_by heard member bytes))) own
 own_one p floors all (Came (Received (Client number) bytes)) made own = own
 own_one p floors all (Came Quiet) made own = subst (AreOwn p.rows.names floors all) (sym (turns_told p.rows (turns_due p))) own
 own_one p floors all (Came Faulted) made own = own

@@ -32,9 +32,9 @@ floor_of byte next = record { name = name_with byte; next = next }
 abbrev pub book : List (List ℕ)
 book = name_with 0xaa ∷ name_with 0xbb ∷ name_with 0xcc ∷ []
 
--- a start with floors, at which no member is known to have gone back
+-- a start with floors, at which no member is known to have gone back, and no boot of a member is known
 abbrev pub start_with : List ℕ → StartRecord
-start_with floors = record { gone_back = nobody; floors = floors }
+start_with floors = record { gone_back = nobody; known = replicate 10 0; floors = floors }
 
 -- node 2 of three in its boot 5, whose store has the floor 5 of each token
 abbrev pub node_2 : PackerRecord
@@ -92,6 +92,14 @@ node_2_told claims = record node_2 { claims = claims }
 -- node 2, after a floor of member 1 fell
 abbrev pub fallen_node : PackerRecord
 fallen_node = node_2_told (fallen_1 4 (claim 3 7) no_claim no_claim)
+
+-- the greatest boots of the members, of whom only member 1 was heard
+abbrev pub heard_1 : ℕ → List ℕ
+heard_1 boot = 0 ∷ boot ∷ replicate 8 0
+
+-- a node that heard member 1 in a boot
+abbrev pub hears_1 : ℕ → PackerRecord → PackerRecord
+hears_1 boot node = record node { heard = heard_1 boot }
 
 -- a pace with a number of quiet turns until member 1 is silent, and of a fast round
 abbrev pub pace_with : ℕ → ℕ → PaceRecord
@@ -157,6 +165,16 @@ equal_floor = head_bytes_of 4 ++ name_with 0xaa ++ eight_bytes 5 ++ equal_tag
 -- a Deny with the floor 9 of the first token
 abbrev pub deny_of_9 : List ℕ
 deny_of_9 = head_bytes_of 3 ++ name_with 0xaa ++ replicate 17 0 ++ eight_bytes 9 ++ replicate 16 0
+
+-- the tag of a Deny of boot 5
+abbrev pub later_tag : List ℕ
+later_tag =
+    0x76 ∷ 0xb7 ∷ 0x61 ∷ 0x53 ∷ 0xbc ∷ 0x42 ∷ 0x54 ∷ 0xb6 ∷ 0x16 ∷ 0x03 ∷ 0x1a ∷ 0x5c ∷ 0xc9 ∷ 0xc9 ∷ 0xd7 ∷ 0x87 ∷ []
+
+-- the Deny, with the floor 9 of the first token
+abbrev pub later_deny : List ℕ
+later_deny =
+    0x4f ∷ 0x56 ∷ 3 ∷ 3 ∷ 1 ∷ 2 ∷ eight_bytes 5 ++ name_with 0xaa ++ replicate 17 0 ++ eight_bytes 9 ++ later_tag
 
 -- an Ask of the first token, with the first factor of its span and the low byte of the last one
 abbrev pub ask_of : List ℕ → ℕ → List ℕ

@@ -1,5 +1,5 @@
 -- What a port makes of the datagrams that tell floors, and the floors that it tells.
-use Rattle.std.specs.Prelude.{ℕ, zero, suc, ◌+◌, ◌==◌, ◌||◌, Bool, if◌then◌else◌, List, [], ◌∷◌, ◌++◌, length, drop, Option, Some, None}
+use Rattle.std.specs.Prelude.{ℕ, zero, suc, ◌+◌, ◌==◌, ◌||◌, Bool, nat_lt, if◌then◌else◌, List, [], ◌∷◌, ◌++◌, length, drop, slice_index, slice_set, Option, Some, None}
 use Rattle.datagram_port.specs.Port.{PortEvent, Received, Quiet, Faulted, Offered}
 use Rattle.datagram_port.specs.declared.port.Sender.{Sender}
 use Rattle.datagram_port.specs.declared.port.Sender.TheVariants.{Client, Peer}
@@ -7,7 +7,8 @@ use Rattle.named_wire.specs.Bytes.{byte_at}
 use Rattle.named_wire.specs.Datagram.{datagram_at, datagram_bytes}
 use Rattle.named_wire.specs.declared.head.Head.{Head}
 use Rattle.named_wire.specs.declared.head.Kind.TheVariants.{Floor, Floors}
-use Rattle.named_port.specs.Translator.{between}
+use Rattle.named_port.specs.Runs.{boot_of}
+use Rattle.named_port.specs.Translator.{between, is_older}
 use Rattle.node_log.specs.declared.gatekeeper.Fell.{Fell}
 use Rattle.floor_port.specs.Claims.{ClaimsRecord, claims_after, falls, fell_of, is_fallen, new_claims}
 use Rattle.floor_port.specs.Floors.{floor_bytes, floors_body, told_in}
@@ -22,7 +23,8 @@ pub record PendingRecord : Type 0 where
   pub floors : List NamedFloor
 
 -- A packer of a node: the key of the tags, the node with its boot, the number of members, the rows of its book, its
--- pace, the floors that are left to hand in, and what the members told of their floors.
+-- pace, the floors that are left to hand in, what the members told of their floors, and the greatest boot in which each
+-- member was heard or was known at the start, from member 0 to 9.
 pub record PackerRecord : Type 0 where
   pub key : List ℕ
   pub me : ℕ
@@ -32,15 +34,17 @@ pub record PackerRecord : Type 0 where
   pub pace : PaceRecord
   pub pending : PendingRecord
   pub claims : ClaimsRecord
+  pub heard : List ℕ
 
 -- no floor is left to hand in to the node
 abbrev pub nothing_pending : ℕ → PendingRecord
 nothing_pending me = record { head = record { kind = Floor; from = 0; to = me; boot = 0 }; floors = [] }
 
--- What a packer begins with: the members that are known to have gone back, from member 0 to 9, and the floors of its
--- node's store, in the order of the names.
+-- What a packer begins with: the members that are known to have gone back, and the greatest boot in which each member
+-- was heard before, both from member 0 to 9, and the floors of its node's store, in the order of the names.
 pub record StartRecord : Type 0 where
   pub gone_back : List Bool
+  pub known : List ℕ
   pub floors : List ℕ
 
 -- a packer that was told nothing
@@ -54,7 +58,33 @@ new_packer key names me boot members start = record {
   pace = new_pace (length start.floors);
   pending = nothing_pending me;
   claims = new_claims start.gone_back (length start.floors);
+  heard = start.known;
 }
+
+-- ---- the boots of members
+
+-- the head and the body of a datagram that `member` sent to the node, if its tag is right
+abbrev pub sent_by : PackerRecord → ℕ → List ℕ → Option (Head × List ℕ)
+sent_by packer member bytes = between member packer.me (datagram_at packer.key bytes)
+
+-- the greatest boots of the members, after one was heard in a boot
+abbrev pub with_boot : List ℕ → ℕ → ℕ → List ℕ
+with_boot heard member boot =
+    if nat_lt (slice_index heard member) boot then slice_set heard member boot else heard
+
+-- The packer after bytes from a member's address. A datagram of any kind tells the boot of the member that sent it to
+-- the node. A member whose floor fell isn't heard.
+abbrev pub hearing : PackerRecord → ℕ → List ℕ → PackerRecord
+hearing packer member bytes = record packer {
+  heard = if is_fallen packer.claims member then packer.heard
+      else with_boot packer.heard member (boot_of (sent_by packer member bytes));
+}
+
+-- The head and the body of a datagram, unless its member was heard in a later boot: the port by names above drops such
+-- a datagram.
+abbrev pub in_time : List ℕ → Option (Head × List ℕ) → Option (Head × List ℕ)
+in_time heard None = None
+in_time heard (Some read) = if is_older heard read.0 then None else Some read
 
 -- ---- floors that the node is told
 
@@ -72,10 +102,11 @@ abbrev pub floors_read : Option (Head × List ℕ) → Option (Head × List Name
 floors_read None = None
 floors_read (Some read) = with_head read.0 (told_in read.0.kind read.1)
 
--- the head and the floors of a datagram that `member` sent to the node, if it tells floors and its tag is right
+-- The head and the floors of a datagram that `member` sent to the node, if it tells floors and its tag is right. Those
+-- of a datagram of an older boot are not read.
 abbrev pub told_by : PackerRecord → ℕ → List ℕ → Option (Head × List NamedFloor)
 told_by packer member bytes =
-    if tells_floors bytes then floors_read (between member packer.me (datagram_at packer.key bytes)) else None
+    if tells_floors bytes then floors_read (in_time packer.heard (sent_by packer member bytes)) else None
 
 -- the head of the datagram of one floor
 abbrev pub floor_head : Head → Head
@@ -172,13 +203,14 @@ bytes_or None others = others
 bytes_or (Some first) others = first
 
 -- The bytes that are handed in for a member's datagram: the datagram of the first of its news, or the same bytes if it
--- has no news. There are none if a floor of the member fell.
+-- has no news. There are none if a floor of the member fell. The packer has heard the boot of the datagram.
 abbrev pub member_bytes : PackerRecord → ℕ → List ℕ → List ℕ
 member_bytes packer member bytes = bytes_or (bytes_for packer member (told_by packer member bytes)) bytes
 
 -- the event that is handed to the node for an event of the port below
 abbrev pub handed_in : PackerRecord → PortEvent → PortEvent
-handed_in packer (Received (Peer member) bytes) = Received (Peer member) (member_bytes packer member bytes)
+handed_in packer (Received (Peer member) bytes) =
+    Received (Peer member) (member_bytes (hearing packer member bytes) member bytes)
 handed_in packer (Received (Client number) bytes) = Received (Client number) bytes
 handed_in packer Quiet = Quiet
 handed_in packer Faulted = Faulted
@@ -239,7 +271,7 @@ after_quiet_turn packer = record packer {
 -- the packer after an event of the port below
 abbrev pub after_event : PackerRecord → PortEvent → PackerRecord
 after_event packer (Received (Peer member) bytes) =
-    after_datagram packer member (told_by packer member bytes)
+    let heard = hearing packer member bytes in after_datagram heard member (told_by heard member bytes)
 after_event packer (Received (Client number) bytes) = packer
 after_event packer Quiet = after_quiet_turn packer
 after_event packer Faulted = packer
@@ -247,7 +279,8 @@ after_event packer (Offered to bytes) = packer
 
 -- the fall that an event of the port below shows, if it shows one
 abbrev pub fell_at : PackerRecord → PortEvent → Option Fell
-fell_at packer (Received (Peer member) bytes) = fell_by packer member (told_by packer member bytes)
+fell_at packer (Received (Peer member) bytes) =
+    let heard = hearing packer member bytes in fell_by heard member (told_by heard member bytes)
 fell_at packer (Received (Client number) bytes) = None
 fell_at packer Quiet = None
 fell_at packer Faulted = None

@@ -4,13 +4,15 @@ use Rattle.datagram_port.specs.Port.{PortEvent, Received, Offered}
 use Rattle.datagram_port.specs.declared.port.Sender.{Sender}
 use Rattle.datagram_port.specs.declared.port.Sender.TheVariants.{Peer}
 use Rattle.named_port.specs.Names.{number_of}
+use Rattle.named_port.specs.Runs.{after_events}
+use Rattle.named_port.specs.Translator.{TranslatorRecord, is_older, new_translator}
 use Rattle.named_wire.specs.Datagram.{datagram_at, datagram_bytes}
 use Rattle.named_wire.specs.declared.head.Head.{Head}
 use Rattle.named_wire.specs.declared.head.Kind.TheVariants.{Floors}
 use Rattle.floor_port.specs.Floors.{floor_bytes, floors_body, told_in}
-use Rattle.floor_port.specs.Packer.{floor_head}
+use Rattle.floor_port.specs.Packer.{PackerRecord, floor_head}
 use Rattle.floor_port.specs.Rows.{RowsRecord, is_fresh}
-use Rattle.floor_port.specs.Runs.{Call, Came, Offer}
+use Rattle.floor_port.specs.Runs.{Call, Came, Offer, handed_events}
 use Rattle.floor_port.specs.Witness.{witness_of}
 use Rattle.floor_port.specs.declared.floor.NamedFloor.{NamedFloor}
 
@@ -82,6 +84,19 @@ abbrev pub HandsIn : List ℕ → List Bool → ℕ → List Call → PortEvent 
 HandsIn key gone_back me calls event =
     Among calls (Came event)
     ⊎ (IsOwnOffer calls event ⊎ (IsFloorHanded key me calls event ⊎ IsSilenced key gone_back me calls event))
+
+-- The translator of the port by names above, after calls from the given start. It knew the same boots at its start, and
+-- received what the port handed in.
+abbrev pub above : PackerRecord → List Call → TranslatorRecord
+above start calls =
+    after_events (new_translator start.key start.rows.names start.me start.boot start.heard) (handed_events start calls)
+
+-- bytes that are a datagram under the key, which a translator doesn't drop for its boot
+pub record IsInTime (key : List ℕ) (translator : TranslatorRecord) (bytes : List ℕ) : Type 0 where
+  pub head : Head
+  pub body : List ℕ
+  pub reads : datagram_at key bytes ≡ Some (head, body)
+  pub boot_is : is_older translator.heard head ≡ false
 
 -- ---- what is offered
 

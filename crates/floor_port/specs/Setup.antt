@@ -9,11 +9,11 @@ abbrev pub marks_of : List Bool → List ℕ
 marks_of gone_back = map (λ one. if one then 1 else 0) gone_back
 
 -- What a packer packs by, from its start. Before the names it has a list of the number of members and the floors of the
--- start, and a list of the members that are known to have gone back.
+-- start, a list of the members that are known to have gone back, and the boots that are known.
 abbrev pub telling_of : PackerRecord → StartRecord → Naming
 telling_of packer start = record {
   key = packer.key;
-  names = (packer.members ∷ start.floors) ∷ marks_of start.gone_back ∷ packer.rows.names;
+  names = (packer.members ∷ start.floors) ∷ marks_of start.gone_back ∷ start.known ∷ packer.rows.names;
   me = packer.me;
   boot = packer.boot;
 }

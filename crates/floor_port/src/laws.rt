@@ -1,14 +1,15 @@
-ghost use Rattle.std.specs.Prelude.{◌≡◌, ◌⊎◌, ◌↔◌, ◌<◌, ◌≤◌, ℕ, List, [], Some, length, slice_index, true};
+ghost use Rattle.std.specs.Prelude.{◌≡◌, ◌⊎◌, ◌↔◌, ◌<◌, ◌≤◌, ℕ, List, [], Some, false, length, slice_index, true};
 ghost use Rattle.datagram_port.specs.Port.{Offered, PortEvent, Quiet, Received};
 ghost use Rattle.datagram_port.specs.declared.port.Sender.{Sender};
 ghost use Rattle.datagram_port.specs.declared.port.Sender.TheVariants.{Peer};
 ghost use Rattle.named_port.specs.Names.{number_of};
+ghost use Rattle.named_port.specs.Translator.{is_older};
 ghost use Rattle.named_wire.specs.Bytes.{AreBytes};
 ghost use Rattle.node_log.specs.declared.gatekeeper.Fell.{Fell};
 ghost use Rattle.floor_port.specs.Claims.{is_fallen};
 ghost use Rattle.floor_port.specs.Floors.{IsBodyOf, floors_at};
 ghost use Rattle.floor_port.specs.Packer.{PackerRecord, StartRecord, after_event, handed_in, new_packer};
-ghost use Rattle.floor_port.specs.Promises.{Among, HandsIn, IsNotFresh, TellsFloors, WentBack};
+ghost use Rattle.floor_port.specs.Promises.{Among, HandsIn, IsInTime, IsNotFresh, TellsFloors, WentBack, above};
 ghost use Rattle.floor_port.specs.Rows.{RowsRecord, after_witness, is_fresh, next_floors};
 ghost use Rattle.floor_port.specs.Runs.{Call, Offer, after_calls, below_events, fells_over, handed_events, may_make};
 ghost use Rattle.floor_port.specs.declared.floor.NamedFloor.{NamedFloor};
@@ -34,6 +35,26 @@ pub fn what_is_told_is_the_nodes()
         (to : Sender) (bytes : List ℕ) → may_make (new_packer key names me boot members start) calls ≡ true →
         Among (below_events (new_packer key names me boot members start) calls) (Offered to bytes) →
         Among calls (Offer to bytes) ⊎ TellsFloors key names me boot start.floors calls to bytes }
+{}
+
+/// Noted floors are taken: a datagram that raises a floor which the port knows is of no boot that the port by names
+/// above drops, and neither are the floors that are left to hand in.
+///
+/// The port above knows the same boots at its start, and receives what the port hands in.
+pub fn noted_floors_are_taken()
+    ensures noted { (key : List ℕ) (names : List (List ℕ)) (me boot members member row : ℕ) (start : StartRecord)
+        (calls : List Call) (bytes : List ℕ) → length start.known ≡ 10 →
+        may_make (new_packer key names me boot members start) calls ≡ true →
+        slice_index (after_calls (new_packer key names me boot members start) calls).rows.known row
+        < slice_index (after_event (after_calls (new_packer key names me boot members start) calls)
+        (Received (Peer member) bytes)).rows.known row →
+        IsInTime key (above (new_packer key names me boot members start) calls) bytes }
+    ensures left { (key : List ℕ) (names : List (List ℕ)) (me boot members : ℕ) (start : StartRecord)
+        (calls : List Call) → length start.known ≡ 10 →
+        may_make (new_packer key names me boot members start) calls ≡ true →
+        1 ≤ length (after_calls (new_packer key names me boot members start) calls).pending.floors →
+        is_older (above (new_packer key names me boot members start) calls).heard
+        (after_calls (new_packer key names me boot members start) calls).pending.head ≡ false }
 {}
 
 /// Floors rise: no call lowers a floor that the port tells, or one that it knows.

@@ -2,19 +2,21 @@
 
 ghost use Rattle.std.specs.Option.{option_map};
 ghost use Rattle.arrayvec.specs.ArrayVec.{array_vec_len};
-ghost use Rattle.std.specs.Prelude.{◌≡◌, ◌≢◌, ◌≤◌, ◌==◌, if◌then◌else◌, length, take, drop, Some, None, IfOk, IfSome};
+ghost use Rattle.std.specs.Prelude.{◌≡◌, ◌≢◌, ◌≤◌, ◌==◌, if◌then◌else◌, false, length, take, drop, Some, None, IfOk, IfSome};
 ghost use Rattle.datagram_port.specs.Port.{IsWithin, Received as ReceivedEvent, event_of_receive};
 ghost use Rattle.datagram_port.specs.declared.port.Received.TheVariants.{Quiet};
 ghost use Rattle.datagram_port.specs.declared.port.Sender.TheVariants.{Peer};
-ghost use Rattle.floor_port.specs.Claims.{fell_of, with_fell};
+ghost use Rattle.floor_port.specs.Claims.{fell_of, is_fallen, with_fell};
 ghost use Rattle.floor_port.specs.Pace.{after_quiet};
 ghost use Rattle.floor_port.specs.Packer as spec;
 ghost use Rattle.floor_port.specs.Rows.{after_telling, after_turn, next_floors, rows_of};
+ghost use Rattle.named_wire.specs.Bytes.{number_at};
 
-use crate::body::{MAX_FLOORS, floor_body, floors_body, floors_told};
+use crate::body::{MAX_FLOORS, floor_body, floors_body, floors_told, number_at};
 use crate::claims::Claims;
 use crate::falls::Falls;
 use crate::floor::NamedFloor;
+use crate::heard::Heard;
 use crate::pace::Pace;
 use crate::rows::Rows;
 use crate::witness::witness_of;
@@ -39,7 +41,14 @@ pub struct Membership {
     pub members: u8,
     /// The members that are known to have gone back to an old store, from member 0 to 9.
     pub gone_back: [bool; PLACES],
+    /// The greatest boot in which each member was heard before, from member 0 to 9, or 0.
+    pub known: [u64; PLACES],
 }
+
+/// The length of a head, in bytes, and the place of its boot.
+const HEAD_LEN: usize = 14;
+
+const HEAD_BOOT: usize = 6;
 
 /// The floors of a datagram that are left to hand in.
 #[derive(Drop)]
@@ -67,6 +76,7 @@ pub(crate) struct Packer<'k> {
     pace: Pace,
     pending: Pending,
     claims: Claims,
+    heard: Heard,
 }
 
 impl<'k> Model for Packer<'k> {
@@ -84,6 +94,7 @@ impl<'k> Model for Packer<'k> {
       pace = packer.pace;
       pending = packer.pending;
       claims = packer.claims;
+      heard = packer.heard;
     } };
 
     // there is a claim of each member for each name
@@ -98,6 +109,16 @@ fn tells_floors(bytes: &[u8]) -> bool
         Some(kind) => *kind == 4 || *kind == 5,
         None => false,
     }
+}
+
+/// Returns the boot of the head that the bytes begin with if they are a datagram, or 0 if they are shorter than a head.
+fn boot_at(bytes: &[u8]) -> u64
+    ensures { 14 ≤ length bytes.now → result ≡ number_at bytes.now 6 }
+{
+    if bytes.len() < HEAD_LEN {
+        return 0;
+    }
+    number_at(bytes, HEAD_BOOT)
 }
 
 /// Returns the body of at most 20 floors, or None if there are none.
@@ -152,7 +173,7 @@ impl<'k> Packer<'k> {
         requires few { length floors.now ≤ 10000 }
         requires each { length floors.now ≡ length names.now }
         ensures { IfOk result (λ packer. packer ≡ spec.new_packer key.now names.now node.me node.boot node.members
-            (record { gone_back = node.gone_back; floors = floors.now })) }
+            (record { gone_back = node.gone_back; known = node.known; floors = floors.now })) }
     {
         Ok(Packer {
             key,
@@ -163,6 +184,7 @@ impl<'k> Packer<'k> {
             pace: Pace::new(floors.len()),
             pending: Pending::new(node.me),
             claims: Claims::new(alloc, node.gone_back, floors.len())?,
+            heard: Heard::new(node.known),
         })
     }
 
@@ -204,7 +226,34 @@ impl<'k> Packer<'k> {
         Received::Datagram { sender, len }
     }
 
-    /// Returns the head of a datagram that `member` sent to the node, and the floors that it tells, or None.
+    /// Returns the head and the body of a datagram that `member` sent to the node, or None.
+    fn sent_by<'a>(&self, member: u8, bytes: &'a [u8]) -> Option<(Head, &'a [u8])>
+        ensures read { option_map (λ read. (read.0, read.1.now)) result ≡ spec.sent_by self.now member bytes.now }
+        ensures member { IfSome result (λ _. (1 ≤ member) × (member ≤ 9)) }
+    {
+        let (head, body) = read_datagram(self.key, bytes)?;
+        if head.from != member || head.to != self.me {
+            return None;
+        }
+        Some((head, body))
+    }
+
+    /// Notes the boot of a datagram that `member` sent to the node. It looks at the tag only if the boot is greater than
+    /// those that it noted of the member.
+    fn note_boot(&mut self, member: u8, bytes: &[u8])
+        requires { is_fallen self.old.claims member ≡ false }
+        ensures { self.new ≡ spec.hearing self.old member bytes.now }
+    {
+        if boot_at(bytes) <= self.heard.boot_of(member) {
+            return;
+        }
+        if let Some((head, _)) = self.sent_by(member, bytes) {
+            self.heard.note(member, head.boot);
+        }
+    }
+
+    /// Returns the head of a datagram that `member` sent to the node, and the floors that it tells, or None. A datagram
+    /// of an older boot tells none: the port by names above drops it.
     fn told_by(&self, member: u8, bytes: &[u8]) -> Option<(Head, ArrayVec<NamedFloor, MAX_FLOORS>)>
         ensures told { option_map (λ told. (told.0, told.1.items)) result ≡ spec.told_by self.now member bytes.now }
         ensures member { IfSome result (λ _. (1 ≤ member) × (member ≤ 9)) }
@@ -213,8 +262,8 @@ impl<'k> Packer<'k> {
         if !tells_floors(bytes) {
             return None;
         }
-        let (head, body) = read_datagram(self.key, bytes)?;
-        if head.from != member || head.to != self.me {
+        let (head, body) = self.sent_by(member, bytes)?;
+        if head.boot < self.heard.boot_of(head.from) {
             return None;
         }
         let floors = floors_told(head.kind, body)?;
@@ -300,16 +349,17 @@ impl<'k> Packer<'k> {
         bytes: &[u8],
         falls: &mut Falls,
     ) -> Option<ArrayVec<u8, MAX_DATAGRAM_LEN>>
-        ensures bytes { option_map (λ bytes. bytes.items) result
-            ≡ spec.bytes_for self.old member (spec.told_by self.old member bytes.now) }
-        ensures after { self.new
-            ≡ spec.after_datagram self.old member (spec.told_by self.old member bytes.now) }
-        ensures fell { falls.new
-            ≡ with_fell falls.old (spec.fell_by self.old member (spec.told_by self.old member bytes.now)) }
+        ensures bytes { let heard = spec.hearing self.old member bytes.now in option_map (λ bytes. bytes.items) result
+            ≡ spec.bytes_for heard member (spec.told_by heard member bytes.now) }
+        ensures after { let heard = spec.hearing self.old member bytes.now in self.new
+            ≡ spec.after_datagram heard member (spec.told_by heard member bytes.now) }
+        ensures fell { let heard = spec.hearing self.old member bytes.now in falls.new
+            ≡ with_fell falls.old (spec.fell_by heard member (spec.told_by heard member bytes.now)) }
     {
         if self.claims.is_fallen(member) {
             return Some(ArrayVec::new());
         }
+        self.note_boot(member, bytes);
         let (head, floors) = self.told_by(member, bytes)?;
         self.take_floors(member, head, &floors, falls)
     }

@@ -137,12 +137,13 @@ impl<'k, P: Port + Drop> FloorPort<'k, P> {
         requires each { length floors.now ≡ length names.now }
         ensures { IfOk result (λ made. (made.port ≡ port) × (made.falls ≡ [])
             × (made.packer ≡ new_packer key.now names.now node.me node.boot node.members made.calls.start)
-            × (made.calls.start ≡ record { gone_back = node.gone_back; floors = floors.now })
+            × (made.calls.start ≡ record { gone_back = node.gone_back; known = node.known; floors = floors.now })
             × (made.calls.calls ≡ [])) }
     {
         let packer = Packer::new(alloc, key, names, node, floors)?;
         let mut calls = Record::new();
         calls.note_gone_back(node.gone_back.as_slice());
+        calls.note_known(node.known.as_slice());
         calls.note_floors(packer.told());
         Ok(FloorPort {
             port,

@@ -22,9 +22,9 @@ impl Model for Record {
 }
 
 impl Record {
-    /// Returns a record without calls, floors and members that went back.
+    /// Returns a record without calls, floors, and known boots and members that went back.
     pub(crate) fn new() -> Record
-        ensures { (result.start ≡ record { gone_back = []; floors = [] }) × (result.calls ≡ []) }
+        ensures { (result.start ≡ record { gone_back = []; known = []; floors = [] }) × (result.calls ≡ []) }
     {
         Record {
             marker: PhantomData,
@@ -34,6 +34,11 @@ impl Record {
     /// Notes the members that are known at the start to have gone back.
     pub(crate) fn note_gone_back(&mut self, _gone_back: &[bool])
         ensures { self.new ≡ record self.old { start = record self.old.start { gone_back = _gone_back.now } } }
+    {}
+
+    /// Notes the boots of the members that are known at the start.
+    pub(crate) fn note_known(&mut self, _known: &[u64])
+        ensures { self.new ≡ record self.old { start = record self.old.start { known = _known.now } } }
     {}
 
     /// Notes the floors at the start.

@@ -1,15 +1,16 @@
 ghost use Rattle.std.specs.Prelude.{◌≡◌, ◌^◌, ◌+◌, [], ◌∷◌, ◌++◌, Some, None, false, map, replicate, slice_set, take, true};
 ghost use Rattle.datagram_port.specs.Port.{Faulted, Offered, Quiet, Received};
 ghost use Rattle.datagram_port.specs.declared.port.Sender.TheVariants.{Client, Peer};
+ghost use Rattle.named_port.specs.Translator.{is_older};
 ghost use Rattle.named_wire.specs.declared.head.Kind.TheVariants.{Ask, Deny, Floor, Floors, Grant};
 ghost use Rattle.vote_wire.specs.Examples.{eight_bytes};
-ghost use Rattle.floor_port.specs.Examples.{ask_of, bare_setup, body_of_two, book, claim, claims_of_1, deny_of_9, equal_floor, fallen_1, fallen_node, fell_1, floor_of, fresh_rows, from_1, gone_1, head_with, left_of_1, lower_floor, name_with, node_2, node_2_knowing, node_2_over, node_2_told, node_2_with, one_floor, pace_with, rows_with, start_with, told_in_4, two_floors, zeros};
+ghost use Rattle.floor_port.specs.Examples.{ask_of, bare_setup, body_of_two, book, claim, claims_of_1, deny_of_9, equal_floor, fallen_1, fallen_node, fell_1, floor_of, fresh_rows, from_1, gone_1, head_with, heard_1, hears_1, later_deny, left_of_1, lower_floor, name_with, node_2, node_2_knowing, node_2_over, node_2_told, node_2_with, one_floor, pace_with, rows_with, start_with, told_in_4, two_floors, zeros};
 ghost use Rattle.node_log.specs.Differing.{nobody};
 ghost use Rattle.floor_port.specs.Claims.{claims_after, falls, fell_of, is_below, is_fallen, new_claims, no_claim, place_of, with_fell};
 ghost use Rattle.floor_port.specs.Floors.{IsBodyOf, floors_at, floors_body, is_body, told_in};
 ghost use Rattle.floor_port.specs.Pace.{after_heard, after_quiet, due, new_pace, round_of};
-ghost use Rattle.floor_port.specs.Packer.{after_event, after_next, after_offer, after_told, body_of, body_offers, fell_at, first_told, floors_datagram, handed_in, new_packer, next_bytes, told_at, told_by, turn_offers};
-ghost use Rattle.floor_port.specs.Promises.{HandsIn, IsNotFresh, IsOwnFloor, TellsFloors, WentBack};
+ghost use Rattle.floor_port.specs.Packer.{after_event, after_next, after_offer, after_told, body_of, body_offers, fell_at, first_told, floors_datagram, handed_in, hearing, new_packer, next_bytes, told_at, told_by, turn_offers, with_boot};
+ghost use Rattle.floor_port.specs.Promises.{HandsIn, IsInTime, IsNotFresh, IsOwnFloor, TellsFloors, WentBack, above};
 ghost use Rattle.floor_port.specs.Rows.{after_floor, after_floors, after_news, after_telling, after_turn, after_witness, is_fresh, is_news, new_rows, news, next_floors, rows_of, turns_of, with_fresh};
 ghost use Rattle.floor_port.specs.Runs.{AreUntold, Came, IsAfter, Left, Offer, at_start, below_events, fell_before, fells_over, handed_events, may_call, may_make};
 ghost use Rattle.floor_port.specs.Setup.{telling_setup};
@@ -179,13 +180,13 @@ pub fn silences_are_worked()
     ensures falls { handed_in (node_2_told (claims_of_1 3 (claim 3 7) no_claim no_claim)) (from_1 two_floors)
         ≡ from_1 [] }
     ensures fallen { after_event (node_2_told (claims_of_1 3 (claim 3 7) no_claim no_claim)) (from_1 two_floors)
-        ≡ node_2_told (fallen_1 4 (claim 3 7) no_claim no_claim) }
+        ≡ hears_1 4 (node_2_told (fallen_1 4 (claim 3 7) no_claim no_claim)) }
     ensures fell { fell_at (node_2_told (claims_of_1 3 (claim 3 7) no_claim no_claim)) (from_1 two_floors)
         ≡ Some (fell_1 0xaa) }
     ensures second_falls { handed_in (node_2_told (claims_of_1 3 no_claim no_claim (claim 3 10))) (from_1 two_floors)
         ≡ from_1 [] }
     ensures second_fallen { after_event (node_2_told (claims_of_1 3 no_claim no_claim (claim 3 10))) (from_1 two_floors)
-        ≡ node_2_told (fallen_1 4 (claim 4 6) no_claim (claim 3 10)) }
+        ≡ hears_1 4 (node_2_told (fallen_1 4 (claim 4 6) no_claim (claim 3 10))) }
     ensures second_fell { fell_at (node_2_told (claims_of_1 3 no_claim no_claim (claim 3 10))) (from_1 two_floors)
         ≡ Some (fell_1 0xcc) }
     ensures none_is_left { (after_event (record (node_2_told (claims_of_1 3 (claim 3 7) no_claim no_claim)) {
@@ -231,14 +232,14 @@ pub fn packers_are_worked()
     ensures told_to_another { told_by (record node_2 { me = 3 }) 1 two_floors ≡ None }
     ensures another_key { told_by (record node_2 { key = replicate 32 1 }) 1 two_floors ≡ None }
     ensures first { handed_in node_2 (from_1 two_floors) ≡ from_1 one_floor }
-    ensures left { after_event node_2 (from_1 two_floors) ≡ record node_2 {
+    ensures left { after_event node_2 (from_1 two_floors) ≡ record (hears_1 4 node_2) {
       rows = rows_with (replicate 3 5) (6 ∷ 5 ∷ 9 ∷ []) 0;
       pace = pace_with 25 1;
       pending = left_of_1 (floor_of 0xcc 9 ∷ []);
       claims = claims_of_1 4 (claim 4 6) no_claim (claim 4 9);
     } }
     ensures single { handed_in node_2 (from_1 one_floor) ≡ from_1 one_floor }
-    ensures single_left { after_event node_2 (from_1 one_floor) ≡ record node_2 {
+    ensures single_left { after_event node_2 (from_1 one_floor) ≡ record (hears_1 4 node_2) {
       rows = rows_with (replicate 3 5) (6 ∷ 5 ∷ 5 ∷ []) 0;
       pace = pace_with 25 1;
       pending = left_of_1 [];
@@ -277,6 +278,26 @@ pub fn packers_are_worked()
         ≡ record node_2 { rows = record (rows_with (9 ∷ 5 ∷ 5 ∷ []) (9 ∷ 5 ∷ 5 ∷ []) 0) { fresh = 0 ∷ [] } } }
     ensures no_witness { after_offer node_2 (Peer 1) two_floors ≡ node_2 }
     ensures answer { after_offer node_2 (Client 1) deny_of_9 ≡ node_2 }
+{}
+
+/// Worked cases. The boots that member 1 is heard in, and floors of an older boot, of which nothing is noted.
+pub fn boots_are_worked()
+    ensures greater { map (with_boot (heard_1 4) 1) (3 ∷ 4 ∷ 5 ∷ []) ≡ heard_1 4 ∷ heard_1 4 ∷ heard_1 5 ∷ [] }
+    ensures known { (new_packer zeros book 2 5 3 (record (start_with []) { known = heard_1 4 })).heard ≡ heard_1 4 }
+    ensures floors { hearing node_2 1 two_floors ≡ hears_1 4 node_2 }
+    ensures vote { hearing node_2 1 later_deny ≡ hears_1 5 node_2 }
+    ensures older_boot { hearing (hears_1 5 node_2) 1 two_floors ≡ hears_1 5 node_2 }
+    ensures another_tag { hearing node_2 1 deny_of_9 ≡ node_2 }
+    ensures another_sender { hearing node_2 3 later_deny ≡ node_2 }
+    ensures fallen { hearing fallen_node 1 later_deny ≡ fallen_node }
+    ensures told { map (λ boot. told_by (hears_1 boot node_2) 1 one_floor) (4 ∷ 5 ∷ [])
+        ≡ Some (head_with Floor, floor_of 0xaa 6 ∷ []) ∷ None ∷ [] }
+    ensures older_floors { handed_in (hears_1 5 node_2) (from_1 two_floors) ≡ from_1 two_floors }
+    ensures nothing_is_noted { after_event (hears_1 5 node_2) (from_1 two_floors) ≡ hears_1 5 node_2 }
+    ensures after_a_vote { handed_events node_2 (Came (from_1 later_deny) ∷ Came (from_1 two_floors) ∷ [])
+        ≡ from_1 later_deny ∷ from_1 two_floors ∷ [] }
+    ensures before_a_vote { handed_events node_2 (Came (from_1 two_floors) ∷ Left ∷ Came (from_1 later_deny) ∷ [])
+        ≡ from_1 one_floor ∷ from_1 (next_bytes (node_2_with (floor_of 0xcc 9))) ∷ from_1 later_deny ∷ [] }
 {}
 
 /// Worked cases. What is offered at a quiet turn.
@@ -335,6 +356,20 @@ pub fn calls_can_be_broken()
     ensures offer_came { may_call node_2 (Came (Offered (Peer 1) [])) ≡ false }
 {}
 
+/// Counterexamples: floors of an older boot, and floors that are left while their member is heard in a later one, are
+/// dropped above.
+pub fn noted_floors_can_be_dropped()
+    ensures same_boot { (above node_2 (Came (from_1 two_floors) ∷ [])).heard ≡ heard_1 4 }
+    ensures later_boot { is_older (above node_2 (Came (from_1 two_floors) ∷ Came (from_1 later_deny) ∷ [])).heard
+        (head_with Floors) ≡ true }
+    ensures known_boot { is_older (above (hears_1 5 node_2) []).heard (head_with Floors) ≡ true }
+    ensures too_early { may_make node_2 (Came (from_1 two_floors) ∷ Came (from_1 later_deny) ∷ []) ≡ false }
+    ensures fallen { (above fallen_node (Came (from_1 later_deny) ∷ [])).heard ≡ replicate 10 0 }
+    ensures in_time { IsInTime zeros (above node_2 (Came (from_1 two_floors) ∷ [])) two_floors }
+    ensures not_in_time { IsInTime zeros (above (hears_1 5 node_2) []) two_floors → ⊥ }
+    ensures another_tag { IsInTime zeros (above node_2 []) deny_of_9 → ⊥ }
+{}
+
 /// Counterexamples: each promise of what is handed in and of what is told fails for a minimal one.
 pub fn promises_can_be_broken()
     ensures received { HandsIn zeros nobody 2 (Came Quiet ∷ Came Faulted ∷ []) Faulted }
@@ -366,11 +401,11 @@ pub fn promises_can_be_broken()
 /// Worked cases. The setup of a port that tells floors has what it packs by, and the floors at its start.
 pub fn setups_are_worked()
     ensures telling { telling_setup (new_packer (7 ∷ []) book 2 5 3 (start_with (8 ∷ 9 ∷ [])))
-        (record (start_with (8 ∷ 9 ∷ [])) { gone_back = gone_1 }) (Some bare_setup)
+        (record (start_with (8 ∷ 9 ∷ [])) { gone_back = gone_1; known = heard_1 4 }) (Some bare_setup)
         ≡ Some (record bare_setup {
           namings = record {
             key = 7 ∷ [];
-            names = (3 ∷ 8 ∷ 9 ∷ []) ∷ (0 ∷ 1 ∷ replicate 8 0) ∷ book;
+            names = (3 ∷ 8 ∷ 9 ∷ []) ∷ (0 ∷ 1 ∷ replicate 8 0) ∷ heard_1 4 ∷ book;
             me = 2;
             boot = 5;
           } ∷ [];
@@ -382,7 +417,7 @@ pub fn setups_are_worked()
 {}
 
 /// Counterexamples: the setup is another one for another key, other names, another node or boot, another number of
-/// members, other floors, or other members that went back.
+/// members, other floors, other members that went back, or another known boot.
 pub fn setups_can_be_broken()
     ensures another_key { telling_setup (new_packer (7 ∷ []) book 2 5 3 (start_with [])) (start_with [])
         (Some bare_setup)
@@ -405,5 +440,7 @@ pub fn setups_can_be_broken()
         (Some bare_setup) → ⊥ }
     ensures another_gone_back { telling_setup node_2 (start_with []) (Some bare_setup)
         ≡ telling_setup node_2 (record (start_with []) { gone_back = gone_1 }) (Some bare_setup) → ⊥ }
+    ensures another_known { telling_setup node_2 (start_with []) (Some bare_setup)
+        ≡ telling_setup node_2 (record (start_with []) { known = heard_1 4 }) (Some bare_setup) → ⊥ }
     ensures not_telling { telling_setup node_2 (start_with []) (Some bare_setup) ≡ Some bare_setup → ⊥ }
 {}

@@ -1,5 +1,5 @@
 -- A key that just one row has, before and after a put.
-use Rattle.std.proofs.Common.{◌≡◌, ◌≢◌, ℕ, ℤ, pos, Bool, true, false, not, cond, List, [], ◌∷◌, filter, Option, None, Some, Ordering, Less, Equal, Greater, is_eq, refl, sym, ap, ◌∙◌, subst, inl, inr, arith}
+use Rattle.std.proofs.Common.{◌≡◌, ◌≢◌, ℕ, ℤ, pos, ◌<◌, Bool, true, false, not, cond, List, [], ◌∷◌, filter, Option, None, Some, Ordering, Less, Equal, Greater, is_eq, refl, sym, ap, ◌∙◌, subst, inl, inr, arith}
 use Rattle.sqlite.specs.declared.types.Value.TheVariants.{Int}
 use Rattle.sqlite.specs.Order.{Row, value_cmp}
 use Rattle.sqlite_trees.specs.Tree.{Trees, rowid, has_rowid, put_row, without_rowid}
@@ -91,6 +91,7 @@ row_keeps token row old new it =
       self = it.2.others 0 (λ (e : 0 ≡ 3). omega arith) ∙ it.1.others 0 (λ (e : 0 ≡ 1). omega arith);
       floor = λ other one. one_updated (old.trees 1) (new.trees 1) token other (floor_row token row) refl floor one;
       drift = λ other one. one_updated (old.trees 3) (new.trees 3) token other (drift_row token row.drift) refl drift one;
+      others = λ tree high. it.2.others tree (λ (e : tree ≡ 3). omega (arith, high, e)) ∙ it.1.others tree (λ (e : tree ≡ 1). omega (arith, high, e));
     }
 
 -- of one put
@@ -102,10 +103,11 @@ put_keeps token row number (Some p) old new it =
       self = it.2.others 0 (λ (e : 0 ≡ 2). omega arith) ∙ first.self;
       floor = λ other one. subst (λ (rows : List Row). HasOneRow rows other) (sym (it.2.others 1 (λ (e : 1 ≡ 2). omega arith))) (first.floor other one);
       drift = λ other one. subst (λ (rows : List Row). HasOneRow rows other) (sym (it.2.others 3 (λ (e : 3 ≡ 2). omega arith))) (first.drift other one);
+      others = λ tree high. it.2.others tree (λ (e : tree ≡ 2). omega (arith, high, e)) ∙ first.others tree high;
     }
 
 pub none_keeps : (trees : Trees) → KeepsOneRows trees trees
-none_keeps trees = record { self = refl; floor = λ other one. one; drift = λ other one. one }
+none_keeps trees = record { self = refl; floor = λ other one. one; drift = λ other one. one; others = λ tree high. refl }
 
 -- of one after another
 pub keeps_then : (old mid new : Trees) → KeepsOneRows old mid → KeepsOneRows mid new → KeepsOneRows old new
@@ -113,4 +115,5 @@ keeps_then old mid new first last = record {
   self = last.self ∙ first.self;
   floor = λ other one. last.floor other (first.floor other one);
   drift = λ other one. last.drift other (first.drift other one);
+  others = λ tree high. last.others tree high ∙ first.others tree high;
 }

@@ -67,8 +67,10 @@ abbrev pub LacksRow : Trees → List Put → Option ℕ → Type 0
 LacksRow trees puts None = ¬ HasRows trees puts
 LacksRow trees puts (Some boot) = HasRows trees puts → ¬ HasOneRow (rows_of tables.self trees) 1
 
--- a token with exactly one row keeps exactly one, and the row of `self` is unchanged
+-- A token with exactly one row keeps exactly one. The row of `self` is unchanged, and so is each table behind those of
+-- the tokens.
 pub record KeepsOneRows (old new : Trees) : Type 0 where
   pub self : rows_of tables.self new ≡ rows_of tables.self old
   pub floor : (token : ℕ) → HasOneRow (rows_of tables.floor old) token → HasOneRow (rows_of tables.floor new) token
   pub drift : (token : ℕ) → HasOneRow (rows_of tables.drift old) token → HasOneRow (rows_of tables.drift new) token
+  pub others : (tree : ℕ) → 3 < tree → new tree ≡ old tree

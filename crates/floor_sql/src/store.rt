@@ -5,6 +5,7 @@ ghost use Rattle.floor_store.specs.Fault.{is_failure};
 ghost use Rattle.std.specs.Option.{option_to_list};
 
 use crate::create::write_opening;
+use crate::files::StoreFiles;
 use crate::migrate::migrate_tables;
 use crate::mirror::Mirror;
 use crate::put::{MAX_STAGED, Put, pass_count};
@@ -33,6 +34,8 @@ pub struct SqlStore<S: Alter> {
     passes: u64,
     staged_passes: u64,
     fault: Option<StoreFault>,
+    // The files that each commit looks for at their paths.
+    files: Option<StoreFiles>,
 }
 
 impl<S: Alter> Model for SqlStore<S> {
@@ -145,6 +148,7 @@ impl<S: Alter> SqlStore<S> {
                 passes: 0,
                 staged_passes: 0,
                 fault: None,
+                files: None,
             }),
             Err(Refusal(fault)) => Err((conn, fault)),
         }
@@ -205,6 +209,7 @@ impl<S: Alter> SqlStore<S> {
             passes,
             staged_passes: 0,
             fault: None,
+            files: None,
         })
     }
 
@@ -278,6 +283,33 @@ impl<S: Alter> SqlStore<S> {
         }
     }
 
+    /// Returns the number of committed passes.
+    pub fn pass_count(&self) -> u64
+        ensures value { result ≡ self.now.passes }
+        ensures range { result ≤ 2 ^ 62 }
+    {
+        self.passes
+    }
+
+    /// Makes each commit from now on look for the files of the store at their paths, which were found before it was
+    /// opened. If another file stands there, or none, the commit returns `Disk`, though the store's own files have it.
+    pub fn watch(&mut self, files: Option<StoreFiles>)
+        ensures { self.new ≡ self.old }
+    {
+        self.files = match files {
+            Some(files) => Some(files.with_log()),
+            None => None,
+        };
+    }
+
+    /// Returns whether the files of the store stand at their paths. A store that watches none is in its place.
+    fn is_in_place(&self) -> bool {
+        match &self.files {
+            Some(files) => files.are_in_place(),
+            None => true,
+        }
+    }
+
     /// Returns the connection. Its tables hold the last commit. Puts that wait for their commit are lost.
     pub fn close(self) -> Connection<S>
         ensures same { result ≡ self.conn }
@@ -292,6 +324,7 @@ impl<S: Alter> SqlStore<S> {
             passes: _,
             staged_passes: _,
             fault: _,
+            files: _,
         } = self;
         conn
     }
@@ -324,7 +357,7 @@ impl<S: Alter> SqlStore<S> {
     }
 
     /// Writes the staged puts in one transaction, with `boot` if it is Some, and empties the list.
-    fn write(&mut self, boot: Option<u64>) -> Result<(), StoreFault>
+    fn write_staged(&mut self, boot: Option<u64>) -> Result<(), StoreFault>
         requires works { self.old.fault ≡ None }
         requires next { ForSome boot (λ b. (b ≡ self.old.mirror.boot + 1) × b < 2 ^ 62) }
         ensures writes { Writes (sql_held S.Store) self.old self.new (with_boot boot self.old.mirror) result }
@@ -344,6 +377,27 @@ impl<S: Alter> SqlStore<S> {
         self.staged_passes = 0;
         self.staged.clear();
         self.mirror.set_boot(boot);
+        Ok(())
+    }
+
+    /// Writes the staged puts as [`SqlStore::write_staged`] does. Then the store's files stand at their paths.
+    fn write(&mut self, boot: Option<u64>) -> Result<(), StoreFault>
+        requires works { self.old.fault ≡ None }
+        requires next { ForSome boot (λ b. (b ≡ self.old.mirror.boot + 1) × b < 2 ^ 62) }
+        ensures writes { Writes (sql_held S.Store) self.old self.new (with_boot boot self.old.mirror) result }
+        ensures breaks { IfErr result (λ fault. (self.new.fault ≡ Some fault) × IsTrue (is_failure fault)) }
+        ensures idle { OnOk result (self.new.staged ≡ []) }
+        ensures mirror { OnOk result (self.new.mirror ≡ with_boot boot self.old.mirror) }
+        ensures unusable { HasCleanDisk (state S.Store self.new.conn) → result ≡ Err StoreFault.Unusable
+            → LacksRow (state S.Store self.old.conn).now.trees self.old.staged boot }
+        ensures audit { HasCleanDisk (state S.Store self.new.conn) → OnOk result ((all : _)
+            → HasAudit S.Store self.old all → HasAudit S.Store self.new all) }
+    {
+        self.write_staged(boot)?;
+        if !self.is_in_place() {
+            self.fault = Some(StoreFault::Disk);
+            return Err(StoreFault::Disk);
+        }
         Ok(())
     }
 }

@@ -19,8 +19,6 @@ mod named_rows;
 mod named_writing;
 mod reading;
 mod sealed;
-#[cfg(test)]
-mod tests;
 mod writing;
 
 pub use fault::{FloorsFault, LineFault};

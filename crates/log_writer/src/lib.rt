@@ -12,8 +12,6 @@ mod outlet;
 mod pass_on;
 mod steady;
 mod syslog;
-#[cfg(test)]
-mod tests;
 mod waiting;
 
 pub use either::LogWriter;

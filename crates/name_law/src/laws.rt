@@ -22,17 +22,19 @@ ghost use Rattle.vote_wire.specs.Key.{bare};
 ghost use Rattle.admit_core.specs.Throttle.{SpacesFailures};
 ghost use Rattle.otp_core.specs.Acceptance.{HaveSingleUse, KeepRealTimeOrder};
 ghost use Rattle.vote_core.specs.Safety.{HaveMajority};
+ghost use Rattle.seat_law.specs.Seeds.{AreGivenUp, HaveSingleUseOfSeeds, KeepOrderOfSeeds};
 ghost use Rattle.book_law.specs.Justified.{JustifiesAll};
 ghost use Rattle.book_law.specs.Lives.{Action, IsHistory, Output, Sealed, Setting, Store, Terms, accepted_in, answered_in, floor_in, named_envelope};
 ghost use Rattle.book_law.specs.Promises.{AnswerTruly};
 ghost use Rattle.book_law.specs.Results.{results_in};
+ghost use Rattle.book_law.specs.Seeds.{OpensGreatest};
 ghost use Rattle.book_law.specs.Uses.{IsProcess, IsProcessIn, OwnOutput, Part, entries_in, offer_of_output};
 ghost use Rattle.name_law.specs.Datagrams.{IsReadable, IsSpelled, IsTranslatorOf, bytes_for, named_datagram, numbered_envelope, own_datagram, own_number};
 ghost use Rattle.name_law.specs.Ports.{AreSeated, ReadsEvent, first_translator, named_offer};
 ghost use Rattle.name_law.specs.Stores.{KeepsOthers, LeavesUnder};
 ghost use Rattle.name_law.specs.Unforged.{IsSized, IsUnforgedHistory, IsVoteFor, ReadsOffered, TellsVote, WereOffered};
 
-use book_law::books_are_safe;
+use book_law::{books_are_safe, devices_are_safe};
 use floor_store::FloorStore;
 use oath_node::rulings_have_grounds;
 
@@ -166,5 +168,23 @@ pub fn unforged_names_are_safe()
         → SpacesFailures (results_in setting history node token) }
 {
     books_are_safe();
+    unforged_names_are_genuine();
+}
+
+/// Devices by names: if no vote by names is forged, no factor of a device is accepted twice, whatever its names are.
+///
+/// `seed` gives the device of each canonical token.
+pub fn unforged_devices_are_safe()
+    ensures single_use { (names : List (List ℕ)) (seed : ℕ → ℕ) (setting : Setting) (history : List Action)
+        → IsSized names setting → IsUnforgedHistory names setting history → OpensGreatest seed setting history
+        → HaveSingleUseOfSeeds seed (accepted_in setting history) }
+    ensures in_order { (names : List (List ℕ)) (seed : ℕ → ℕ) (setting : Setting) (history : List Action)
+        → IsSized names setting → IsUnforgedHistory names setting history → OpensGreatest seed setting history
+        → KeepOrderOfSeeds seed (accepted_in setting history) }
+    ensures majority { (names : List (List ℕ)) (seed : ℕ → ℕ) (setting : Setting) (history : List Action)
+        → IsSized names setting → IsUnforgedHistory names setting history → OpensGreatest seed setting history
+        → AreGivenUp setting.n (floor_in setting history) seed (accepted_in setting history) }
+{
+    devices_are_safe();
     unforged_names_are_genuine();
 }

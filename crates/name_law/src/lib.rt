@@ -10,7 +10,7 @@ mod worked;
 
 pub use laws::{
     named_datagrams_tell_envelopes, named_ports_tell_envelopes, seated_stores_keep_other_rows,
-    unforged_names_are_genuine, unforged_names_are_safe,
+    unforged_devices_are_safe, unforged_names_are_genuine, unforged_names_are_safe,
 };
 pub use worked::{
     names_are_worked, names_can_be_broken, ports_can_be_broken, stores_below_can_be_broken,

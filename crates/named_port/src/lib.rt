@@ -17,8 +17,6 @@ mod laws;
 mod names;
 mod port;
 mod record;
-#[cfg(test)]
-mod tests;
 mod translator;
 mod wire;
 mod worked;

@@ -1,8 +1,11 @@
 pub mod IndexLemmas
 pub mod SeatingLemmas
+pub mod SeedLemmas
+pub mod RiseLemmas
 pub mod EntryLemmas
 pub mod FloorLemmas
 pub mod RefusedLemmas
+pub mod GreatestLemmas
 pub mod GrownLemmas
 pub mod OpenLemmas
 pub mod LookLemmas

@@ -4,7 +4,7 @@ use Rattle.std.specs.Ordering.{nat_cmp}
 use Rattle.std.specs.Cmp.Lexicographic.{slice_cmp}
 use Rattle.std.specs.BTreeMap as tree
 use Rattle.std.proofs.lemmas.Bool.{cases_order}
-use Rattle.std.proofs.lemmas.List.{length-append, length-take-le, map-append, take_more}
+use Rattle.std.proofs.lemmas.List.{length-map, length-append, length-take-le, map-append, take_more}
 use Rattle.std.proofs.lemmas.List.Elements.{filter-append}
 use Rattle.std.proofs.lemmas.Option.{get_or_from_slice_get, slice_get_within}
 use Rattle.roster_sql.specs.declared.entry.Entry.{Entry}
@@ -187,3 +187,8 @@ pub seat_read : {e : Entry} (roster names : List Entry) (n : ℕ) (seats places 
 seat_read {e} roster names n seats places new_seats more_places entries more_entries row index entries_are got has low is seats_are places_are was =
     seat_step roster names n e seats places new_seats more_places entries more_entries row low is (subst (IsRowOf roster e.name) (sym got) (has e.name))
     seats_are places_are entries_are was
+
+-- as many seats as tokens
+pub as_many_seats : (roster names : List Entry) (seats : List ℕ) → AreSeatsOf roster names seats → length seats ≡ length names
+as_many_seats roster names seats it =
+    sym (length-map seats (name_at (rows_after roster names))) ∙ ap (λ (l : List (Option (List ℕ))). length l) it.named ∙ length-map names (λ e. Some e.name)

@@ -1,5 +1,5 @@
 -- A store of version 3 that is opened for the tokens of a users file, by their names.
-use Rattle.std.specs.Prelude.{◌≡◌, ◌⊎◌, ℕ, ◌+◌, ◌<◌, ◌≤◌, false, List, length, map, IsTrue, IfErr, IfOk, OnOk, Result}
+use Rattle.std.specs.Prelude.{◌≡◌, ◌⊎◌, ℕ, ◌+◌, ◌<◌, ◌≤◌, nat_lt, false, if◌then◌else◌, List, length, map, filter_map, slice_get, slice_index_or, Option, None, Some, IsTrue, IfErr, IfOk, OnOk, Result}
 use Rattle.sqlite.specs.Store.{Ghosts}
 use Rattle.sqlite.specs.Effect.{Database}
 use Rattle.sqlite.specs.Held as sql
@@ -13,6 +13,8 @@ use Rattle.floor_sql.specs.Shown.{IsLeft, IsRead}
 use Rattle.floor_sql.specs.Stored.{Holds, MayCommit}
 use Rattle.floor_sql.specs.Usable.{HasUsableVersion, IsNode}
 use Rattle.floor_sql.specs.Schema.{schema_of}
+use Rattle.floor_sql.specs.Staged.{with_puts}
+use Rattle.floor_sql.specs.declared.put.Put.{Put}
 use Rattle.floor_sql.specs.declared.schema.Format.TheVariants.{Named}
 use Rattle.roster_sql.specs.Enrolled.{Enrols, with_floors}
 use Rattle.roster_sql.specs.Made.{IsStoreOf}
@@ -20,7 +22,8 @@ use Rattle.roster_sql.specs.Read.{HasUsableBond, HasUsableEntry}
 use Rattle.roster_sql.specs.Roster.{BondRecord, HoldsBond, HoldsNamed, HoldsRoster}
 use Rattle.roster_sql.specs.declared.entry.Entry.{Entry}
 use Rattle.seated_store.specs.Seated.{SeatedRecord}
-use Rattle.named_store.specs.Floors.{seeded_floors}
+use Rattle.seated_store.specs.Seats.{row_at}
+use Rattle.named_store.specs.Floors.{no_entry, raised_floor, rise, seeded_floors}
 use Rattle.named_store.specs.Seating.{AreDistinct, AreSeatsOf, new_entries, new_places, rows_after}
 use Rattle.named_store.specs.declared.fault.NamedFault.{NamedFault}
 use Rattle.named_store.specs.declared.fault.NamedFault.TheVariants.{AnotherCluster, Full, Store}
@@ -67,35 +70,57 @@ floors_in c = map (λ row. row.next) c.rows
 abbrev pub new_floors : List Entry → List Entry → List ℕ → Content → List ℕ
 new_floors roster names floors c = seeded_floors roster (floors_in c) names floors (new_places roster names)
 
--- the content with an opening row for each new token, behind the rows that it has
-abbrev pub with_new : List Entry → List Entry → List ℕ → Content → Content
-with_new roster names floors c = with_floors (new_floors roster names floors c) c
+-- the put that raises the row of a seat to the greatest floor of its seed, if it is lower; the seat of a new token is
+-- behind the rows
+abbrev pub seat_rise : List Entry → Content → ℕ → Option Put
+seat_rise roster c seat =
+    if nat_lt seat (length roster)
+    then rise seat (row_at c.rows seat)
+    (raised_floor roster (floors_in c) (slice_index_or roster seat no_entry).seed (row_at c.rows seat).next)
+    else None
 
--- the new tokens are enrolled in a store with the entries `roster`
-pub record EnrolsNew (node : ℕ) (roster names : List Entry) (floors : List ℕ) (old new : Database) : Type 0 where
+-- the puts that raise the rows of seats
+abbrev pub rises : List Entry → List ℕ → Content → List Put
+rises roster seats c = filter_map (seat_rise roster c) seats
+
+-- each put is of one of the given number of rows
+abbrev pub AreWithin : ℕ → List Put → Type 0
+AreWithin rows puts = (i : ℕ) (put : Put) → slice_get puts i ≡ Some put → put.token < rows
+
+-- the content with the rows of the seats raised, and with an opening row for each new token behind the rows that it has
+abbrev pub with_new : List Entry → List Entry → List ℕ → List ℕ → Content → Content
+with_new roster names floors seats c =
+    with_floors (new_floors roster names floors c) (with_puts c (rises roster seats c))
+
+-- rows are raised and the new tokens are enrolled in a store with the entries `roster`
+pub record EnrolsNew (node : ℕ) (roster names : List Entry) (floors seats : List ℕ) (old new : Database)
+    : Type 0 where
   pub content : Content
   pub passes : List PassRecord
   pub holds : Holds Named old.trees content passes
-  pub enrols : Enrols node (length roster) (new_floors roster names floors content) (new_entries roster names) old new
+  pub enrols : Enrols node (length roster) (length passes) (rises roster seats content)
+      (new_floors roster names floors content) (new_entries roster names) old new
 
--- The tables `old` hold a content, and the tables `new` hold it with the new tokens behind. The passes and the bond are
--- the same. `mirror` is the content of `new`.
-pub record HasGrown (node : ℕ) (roster names : List Entry) (floors : List ℕ) (own : BondRecord) (old new : Database)
-    (mirror : Content) : Type 0 where
+-- The tables `old` hold a content, and the tables `new` hold it with its seated rows raised and the new tokens behind.
+-- The passes and the bond are the same. `mirror` is the content of `new`.
+pub record HasGrown (node : ℕ) (roster names : List Entry) (floors seats : List ℕ) (own : BondRecord)
+    (old new : Database) (mirror : Content) : Type 0 where
   pub content : Content
   pub passes : List PassRecord
   pub was : HoldsNamed old content passes roster own
-  pub now : HoldsNamed new (with_new roster names floors content) passes (rows_after roster names) own
+  pub now : HoldsNamed new (with_new roster names floors seats content) passes (rows_after roster names) own
   pub of_node : was.holds.node ≡ node
   pub same_node : now.holds.node ≡ node
-  pub seen : mirror ≡ with_new roster names floors content
+  pub seen : mirror ≡ with_new roster names floors seats content
 
--- the new tokens are enrolled in a store of `node` that is bound to `own`
+-- rows are raised and the new tokens are enrolled in a store of `node` that is bound to `own`
 pub record EnrolsNames (node : ℕ) (names : List Entry) (floors : List ℕ) (own : BondRecord)
     (old new : Database) : Type 0 where
   pub roster : List Entry
+  pub seats : List ℕ
+  pub seated : AreSeatsOf roster names seats
   pub has : HasNames old node roster own
-  pub enrols : EnrolsNew node roster names floors old new
+  pub enrols : EnrolsNew node roster names floors seats old new
 
 -- The tables are of a store of `node` that is bound to `own`. So many rows are there after the tokens without one were
 -- enrolled, and so many of the tokens had none.
@@ -114,14 +139,22 @@ pub record AreRows (db : Database) (node : ℕ) (names : List Entry) (own : Bond
   pub has : HasNames db node roster own
   pub rows_are : rows ≡ rows_after roster names
 
--- The tables `old` are of a store of `node` that is bound to `own`. The tables `new` hold it with the new tokens
--- behind. Each token has a seat, the row with its name.
+-- Each seated row has at least the floor of every row with its seed. Both are among the rows with the given entries.
+abbrev pub AreGreatest : List Entry → List ℕ → Content → Type 0
+AreGreatest roster seats c = (i seat row : ℕ) (own other : Entry) → slice_get seats i ≡ Some seat
+    → slice_get roster seat ≡ Some own → slice_get roster row ≡ Some other → other.seed ≡ own.seed
+    → (row_at c.rows row).next ≤ (row_at c.rows seat).next
+
+-- The tables `old` are of a store of `node` that is bound to `own`. The tables `new` hold it with its seated rows raised
+-- and the new tokens behind. Each token has a seat, the row with its name. A seated row that was there has the greatest
+-- floor of its seed.
 pub record HasSeats (node : ℕ) (names : List Entry) (floors : List ℕ) (own : BondRecord) (old new : Database)
     (mirror : Content) (seats : List ℕ) : Type 0 where
   pub roster : List Entry
   pub distinct : AreDistinct roster
-  pub grown : HasGrown node roster names floors own old new mirror
+  pub grown : HasGrown node roster names floors seats own old new mirror
   pub seated : AreSeatsOf roster names seats
+  pub greatest : AreGreatest roster seats mirror
 
 module _ {S : Type 0} (g : Ghosts S) where
   -- ---- steps of the opening
@@ -145,27 +178,27 @@ module _ {S : Type 0} (g : Ghosts S) where
     pub survives : Survives (sql.state g old) (sql.state g new) (MayCommit IsChange (sql.state g old))
 
   -- tokens with the given floors and entries are enrolled, and the store is opened
-  pub record IsEnrolled (old : sql.Held S) (node tokens : ℕ) (floors : List ℕ) (entries : List Entry)
-      (store : SqlHeld S) : Type 0 where
+  pub record IsEnrolled (old : sql.Held S) (node tokens count : ℕ) (puts : List Put) (floors : List ℕ)
+      (entries : List Entry) (store : SqlHeld S) : Type 0 where
     pub enrols : HasCleanDisk (sql.state g store.conn)
-        → Enrols node tokens floors entries (sql.state g old).now (sql.state g store.conn).now
+        → Enrols node tokens count puts floors entries (sql.state g old).now (sql.state g store.conn).now
     pub content : HasCleanDisk (sql.state g store.conn)
         → HasTablesAs Named (sql.state g store.conn).now node (tokens + length floors) store.mirror store.passes
     pub rows : length store.mirror.rows ≡ tokens + length floors
     pub sound : IsSound g store
     pub survives : Survives (sql.state g old) (sql.state g store.conn)
-        (MayCommit (Enrols node tokens floors entries) (sql.state g old))
+        (MayCommit (Enrols node tokens count puts floors entries) (sql.state g old))
 
   -- a store with the entries `roster` is opened, after the new tokens were enrolled
-  pub record IsGrown (old : sql.Held S) (node : ℕ) (roster names : List Entry) (floors : List ℕ)
+  pub record IsGrown (old : sql.Held S) (node : ℕ) (roster names : List Entry) (floors seats : List ℕ)
       (store : SqlHeld S) : Type 0 where
     pub grown : HasCleanDisk (sql.state g store.conn) → (own : BondRecord)
         → HasNames (sql.state g old).now node roster own
-        → HasGrown node roster names floors own (sql.state g old).now (sql.state g store.conn).now store.mirror
+        → HasGrown node roster names floors seats own (sql.state g old).now (sql.state g store.conn).now store.mirror
     pub rows : length store.mirror.rows ≡ length (rows_after roster names)
     pub sound : IsSound g store
     pub survives : Survives (sql.state g old) (sql.state g store.conn)
-        (MayCommit (EnrolsNew node roster names floors) (sql.state g old))
+        (MayCommit (EnrolsNew node roster names floors seats) (sql.state g old))
 
   -- ---- the opening
 

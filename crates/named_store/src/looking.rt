@@ -7,9 +7,9 @@ ghost use Rattle.floor_sql.specs.Calls.{HandsBack};
 ghost use Rattle.named_store.specs.Looked.{HasLooked, IsLookFault, IsUnseen};
 
 use crate::fault::{LookFault, NamedFault};
-use crate::opening::open_counted;
+use crate::opening::{open_counted, seated_at};
 use crate::reading::find_tokens;
-use floor_sql::SqlStore;
+use floor_sql::{SqlStore, StoreFiles};
 use floor_store::StoreFault;
 use roster_sql::{Bond, Entry};
 use seated_store::SeatedStore;
@@ -30,7 +30,7 @@ pub struct Looked<S: Alter> {
 /// Opens the store of `node` for the tokens with the entries `names`, each of which has a row.
 ///
 /// The seat of a token is the row with its name. Nothing is enrolled or written. `own` is the cluster that the store
-/// has to be bound to.
+/// has to be bound to. The store watches `files`, if they are given.
 ///
 /// The connection must be outside a transaction and have no limit on its steps. Returns it beside an error, with its
 /// tables as they were.
@@ -47,6 +47,7 @@ pub fn look_named<S: Alter>(
     node: u8,
     names: &[Entry],
     own: &Bond,
+    files: Option<StoreFiles>,
 ) -> Result<Looked<S>, (Connection<S>, LookFault)>
     requires idle { conn.in_transaction ≡ false }
     requires tokens { length names.now ≤ 10000 }
@@ -76,7 +77,7 @@ pub fn look_named<S: Alter>(
     let rows = roster.len() as u32;
     match open_counted(alloc, conn, node, rows) {
         Ok(store) => {
-            let store = SeatedStore::new(store, seating.seats);
+            let store = seated_at(store, files, seating.seats);
             Ok(Looked {
                 roster,
                 seats,

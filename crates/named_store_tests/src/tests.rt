@@ -111,11 +111,12 @@ fn five_floors() -> Option<[Next; 5]> {
     ])
 }
 
-/// Returns whether the same tokens are seen in another order, and no row is new.
+/// Returns whether the same tokens are seen in another order, and no row is new. Two rows have one seed: each of them
+/// has the greater floor.
 fn other_order(alloc: Global, floors: &[Next; 5], own: &Bond) -> Result<bool, NamedFault> {
     let names = [entry(5, 1), entry(1, 9), entry(3, 4)];
     let store = opens(alloc, made(alloc, floors, own)?, &names, &floors[..3], own)?;
-    let order = shows(&store, &[floors[2], floors[0], floors[1]]);
+    let order = shows(&store, &[floors[2], floors[2], floors[1]]);
     let (_conn, rows) = closed(store);
     Ok(order && rows == 3)
 }
@@ -132,6 +133,22 @@ fn one_retired(alloc: Global, floors: &[Next; 5], own: &Bond) -> Result<bool, Na
     let again = shows(&store, &[floors[2], floors[1], floors[4]]);
     let (_conn, same) = closed(store);
     Ok(new && rows == 5 && again && same == 5)
+}
+
+/// Returns whether a row that comes back has the floor of the row that its device had meanwhile, and the row of a
+/// retired token stays.
+fn comes_back(alloc: Global, floors: &[Next; 5], own: &Bond) -> Result<bool, NamedFault> {
+    let now = [entry(5, 1), entry(3, 4)];
+    let store = opens(alloc, made(alloc, floors, own)?, &now, &floors[..2], own)?;
+    let before = shows(&store, &[floors[2], floors[1]]);
+    let (conn, rows) = closed(store);
+    let back = [entry(1, 1), entry(3, 4)];
+    let store = opens(alloc, conn, &back, &floors[..2], own)?;
+    let after = shows(&store, &[floors[2], floors[1]]);
+    let (conn, same) = closed(store);
+    let store = opens(alloc, conn, &now, &floors[..2], own)?;
+    let again = shows(&store, &[floors[2], floors[1]]);
+    Ok(before && rows == 3 && after && same == 3 && again)
 }
 
 /// Returns whether a store is refused to another cluster, and to tokens with one name.
@@ -167,7 +184,7 @@ fn looks(
     if !conn.is_autocommit() || names.len() > 100 {
         return Err((conn, LookFault::Named(NamedFault::Full)));
     }
-    look_named(alloc, conn, 3, names, own)
+    look_named(alloc, conn, 3, names, own, None)
 }
 
 /// Returns whether two of three tokens are seen in another order, beside the entries of all rows.
@@ -241,6 +258,7 @@ fn a_store_is_opened_by_names(rt: HostRuntime) {
     };
     assert!(rt; other_order(rt.alloc(), &floors, &own) == Ok(true));
     assert!(rt; one_retired(rt.alloc(), &floors, &own) == Ok(true));
+    assert!(rt; comes_back(rt.alloc(), &floors, &own) == Ok(true));
     assert!(rt; refused(rt.alloc(), &floors, &own, &other) == Ok(true));
 }
 

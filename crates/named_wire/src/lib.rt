@@ -8,8 +8,6 @@ mod head;
 mod laws;
 mod reading;
 mod tags;
-#[cfg(test)]
-mod tests;
 mod writing;
 
 pub use head::{Head, Kind};

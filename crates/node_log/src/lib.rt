@@ -19,8 +19,6 @@ mod members;
 mod minute;
 mod port;
 mod read;
-#[cfg(test)]
-mod tests;
 mod text;
 
 pub use asked::{Asked, AskedLines, MAX_ASKED};

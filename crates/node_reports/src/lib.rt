@@ -11,8 +11,6 @@ mod named;
 mod passes;
 mod roster;
 mod standing;
-#[cfg(test)]
-mod tests;
 mod text;
 mod told;
 

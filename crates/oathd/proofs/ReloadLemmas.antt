@@ -10,6 +10,7 @@ use Rattle.otp_core.specs.Limits.{Limits}
 use Rattle.otp_core.specs.Range.{IsMoment}
 use Rattle.token_file.specs.Credential.{Credential}
 use Rattle.roster_sql.specs.declared.entry.Entry.{Entry}
+use Rattle.kept_rows.specs.Kept.{kept_rows}
 use Rattle.named_store.specs.Entries.{entries_of}
 use Rattle.named_store.specs.Seating.{AreDistinct}
 use Rattle.oath_node.specs.declared.turns.Served.{Served}
@@ -124,15 +125,16 @@ module _ {S : Type 0} (g : Ghosts S) (finds : sql.Held S → Type 0) (IsAsked : 
       (alone_text other.text.items boot.text.items (former_of other) served (ap (λ (former : Option (Vec ℕ)). option_map (λ (t : Vec ℕ). t.items) former) alone)
       (ap (λ (t : Vec ℕ). t.items) text) of)) h
 
-  -- a boot with the former text of another
-  pub boot_back : (boot other : Boot) (former : Vec ℕ) (result : Result Boot Program) → other.turns ≡ boot.turns → other.text ≡ former → other.former ≡ None
-      → boot.former ≡ Some former → IfOk result (IsBoot g finds IsAsked IsCluster other) → IfOk result (IsBoot g finds IsAsked IsCluster boot)
-  boot_back boot other former result same text alone is h =
+  -- a boot with the rows of another's text that its former text has too
+  pub boot_kept : (boot other : Boot) (former : Vec ℕ) (result : Result Boot Program) → other.turns ≡ boot.turns
+      → other.text.items ≡ kept_rows boot.text.items former.items → other.former ≡ None → boot.former ≡ Some former
+      → IfOk result (IsBoot g finds IsAsked IsCluster other) → IfOk result (IsBoot g finds IsAsked IsCluster boot)
+  boot_kept boot other former result same text alone is h =
       boot_for_result boot other result same (λ served of.
       subst (λ (f : Option (List ℕ)). IsServedText boot.text.items f served)
       (sym (ap (λ (former : Option (Vec ℕ)). option_map (λ (t : Vec ℕ). t.items) former) is))
-      (inr (alone_text other.text.items former.items (former_of other) served
-      (ap (λ (former : Option (Vec ℕ)). option_map (λ (t : Vec ℕ). t.items) former) alone) (ap (λ (t : Vec ℕ). t.items) text) of))) h
+      (inr (alone_text other.text.items (kept_rows boot.text.items former.items) (former_of other) served
+      (ap (λ (former : Option (Vec ℕ)). option_map (λ (t : Vec ℕ). t.items) former) alone) text of))) h
 
   -- the parameters and the cluster of a boot were asked for
   boot_as_asked : (asked : Serving) (named : NamedCluster) (boot next : Boot) → IsAsked asked → IsCluster named

@@ -6,6 +6,7 @@ use Rattle.oathd_database.specs.Unlock.{unlock_status}
 use Rattle.oathd_roster.specs.Fault.{roster_status}
 use Rattle.oathd_seats.specs.Fault.{seats_status}
 use Rattle.oathd.specs.declared.fault.Fault.{Fault}
+use Rattle.oathd.specs.declared.fault.ReplacedFault.{ReplacedFault}
 use Rattle.oathd.specs.declared.fault.ToldFault.{ToldFault}
 use Rattle.oathd.specs.declared.fault.Fault.TheVariants.{Database, Floors, Task, Unlock, Roster, Seats, Names}
 
@@ -22,3 +23,7 @@ status_of (Names fault) = 1
 -- the exit status, whatever the cause
 abbrev pub told_status : ToldFault → ℕ
 told_status told = status_of told.fault
+
+-- the exit status of a fault of a store whose files are gone
+abbrev pub replaced_status : ReplacedFault → ℕ
+replaced_status replaced = status_of replaced.fault

@@ -6,6 +6,7 @@ use Rattle.sqlite.specs.Held as sql
 use Rattle.otp_core.specs.Limits.{Limits}
 use Rattle.named_store.specs.Entries.{entries_of}
 use Rattle.named_store.specs.Seating.{AreDistinct}
+use Rattle.kept_rows.specs.Kept.{kept_rows}
 use Rattle.oathd_words.specs.declared.store_words.ClusterWords.{ClusterWords}
 use Rattle.oathd_words.specs.declared.store_words.ClusterWords.TheVariants.{Given, Named}
 use Rattle.oathd_database.specs.Commands.{HasImport}
@@ -83,10 +84,10 @@ abbrev pub IsNextText : Limits → List ℕ → List ℕ → List ℕ → Option
 IsNextText limits salt served text None = text ≡ served
 IsNextText limits salt served text (Some former) = (former ≡ served) × IsTaken limits salt text
 
--- the text that a boot serves: the next one, or the former one
+-- the text that a boot serves: the next one, or its rows that the former one has too
 abbrev pub IsServedText : List ℕ → Option (List ℕ) → List ℕ → Type 0
 IsServedText text None served = served ≡ text
-IsServedText text (Some former) served = (served ≡ text) ⊎ (served ≡ former)
+IsServedText text (Some former) served = (served ≡ text) ⊎ (served ≡ kept_rows text former)
 
 -- ---- The end of a boot
 

@@ -68,6 +68,24 @@ impl ProgramFault for ToldFault<'_> {
     }
 }
 
+/// The fault of a store whose files were removed or replaced while it was in use, and its cause on the next line.
+#[derive(Clone, Copy, Debug, PartialEq, Eq, Error)]
+#[error("store: Replaced\n  {cause}")]
+pub(crate) struct ReplacedFault<'a> {
+    pub(crate) fault: Fault<'a>,
+    pub(crate) cause: Cause<'a>,
+}
+
+impl ProgramFault for ReplacedFault<'_> {
+    ghost use Rattle.oathd.specs.Fault.{replaced_status};
+
+    ghost status_of = { replaced_status };
+
+    fn status(self) -> u8 {
+        self.fault.status()
+    }
+}
+
 impl From<OutsideFault> for Fault<'_> {
     fn from(fault: OutsideFault) -> Self {
         Fault::Task(oathd_tasks::Fault::from(fault))

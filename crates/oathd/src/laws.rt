@@ -32,7 +32,8 @@ pub(crate) fn texts_are_worked()
     ensures another_former { IsNextText default_limits [] (7 ∷ []) (8 ∷ []) (Some (9 ∷ [])) → ⊥ }
     ensures alone { IsServedText (7 ∷ []) None (7 ∷ []) }
     ensures next { IsServedText (7 ∷ []) (Some (8 ∷ [])) (7 ∷ []) }
-    ensures former { IsServedText (7 ∷ []) (Some (8 ∷ [])) (8 ∷ []) }
+    ensures kept { IsServedText (7 ∷ 10 ∷ 8 ∷ 10 ∷ []) (Some (8 ∷ 10 ∷ 9 ∷ [])) (8 ∷ 10 ∷ []) }
+    ensures former { IsServedText (7 ∷ []) (Some (8 ∷ [])) (8 ∷ []) → ⊥ }
     ensures neither { IsServedText (7 ∷ []) (Some (8 ∷ [])) (9 ∷ []) → ⊥ }
     ensures not_alone { IsServedText (7 ∷ []) None (8 ∷ []) → ⊥ }
 {}

@@ -8,6 +8,7 @@ mod laws;
 mod named;
 mod refusal;
 mod reload;
+mod shared;
 mod tasks;
 mod users;
 mod watch;

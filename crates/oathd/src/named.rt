@@ -14,6 +14,7 @@ ghost use Rattle.oathd.specs.Serve.{IsOfTask};
 use crate::databases::{Site, present_moment};
 use crate::fault::Fault;
 use crate::floors::{floors_texts, with_named_paths};
+use crate::shared::tell_shared_secret;
 use crate::users::checked_users_text;
 use cluster_file::{Cluster, ClusterFault, LineFault};
 use floors_file::MAX_NAMED_FLOORS_LEN;
@@ -91,6 +92,8 @@ impl<'a> Site<'_, 'a> {
         let moment = present_moment(self.rt)?;
         let users = self.users(serving.settings, moment)?;
         let (alloc, rt, found) = (self.alloc, self.rt, self.found(start));
+        let (is_logged, settings) = (serving.is_logged, serving.settings);
+        tell_shared_secret(alloc, is_logged, users.get_ref(), settings, log);
         let _served = serve_named_store(
             alloc,
             rt,

@@ -13,9 +13,12 @@ use crate::databases::{Site, present_moment};
 use crate::fault::Fault;
 use crate::named::named_cluster;
 use crate::refusal::{Refusal, write_refusal};
+use crate::shared::tell_shared_secret;
 use crate::users::users_text;
 use crate::watch::{Found, Stamp, Watch, stamp_of};
-use oathd_causes::NamesFault;
+use floor_store::StoreFault;
+use kept_rows::{kept_rows, write_left};
+use oathd_causes::{NamesFault, Standing};
 use oathd_database::{KeptSocket, Serving};
 use oathd_roster::{NamedCluster, RosterFault, read_named_users, serve_named_store};
 use oathd_tasks::{cluster_in, cluster_key, member_place};
@@ -101,6 +104,17 @@ fn tell_refusal<W: Write>(is_logged: bool, refusal: Refusal, writer: &mut W)
     }
 }
 
+/// Writes the log's lines of a users file for whose new rows the store has no room, if there is a log. A failed write is
+/// ignored.
+fn tell_full<W: Write>(alloc: Global, is_logged: bool, text: &[u8], former: &[u8], writer: &mut W)
+    ensures unlogged { is_logged ≡ false → writer.new ≡ writer.old }
+{
+    if is_logged {
+        let _written = write_refusal(writer, Refusal::Full);
+        let _left = write_left(alloc, writer, text, former);
+    }
+}
+
 /// Returns the text of the next boot, after one with `text` for which `found` was found, and `text` if the next one is
 /// another. A refusal is told in the log, if there is one, and changes nothing.
 fn next_text<W: Write>(
@@ -163,6 +177,7 @@ impl<'a> Site<'_, 'a> {
             return Err(Fault::Database(oathd_database::Fault::Memory));
         };
         let (settings, member) = (serving.settings, serving.place.me());
+        tell_shared_secret(alloc, serving.is_logged, &text, settings, log);
         let watch = Watch::new(alloc, rt, self.users, settings, member, &text, taken);
         let found = self.found(start);
         let (_served, watch) = serve_named_store(
@@ -188,7 +203,7 @@ impl<'a> Site<'_, 'a> {
     }
 
     /// Serves a node in a later boot, as [`Site::serve_boot`] does. If the store has no room for its new tokens, the
-    /// node is served with the tokens of the boot before.
+    /// node is served with the rows that the text of the boot before has too: what is removed is out.
     fn serve_next<O: Write>(
         &self,
         cluster: &NamedCluster,
@@ -208,6 +223,9 @@ impl<'a> Site<'_, 'a> {
             former,
             turns,
         } = boot;
+        let Ok(copy) = Vec::from_slice(self.alloc, &text) else {
+            return Err(Fault::Database(oathd_database::Fault::Memory));
+        };
         let boot = Boot::with_turns(text, taken, turns);
         let served = self.serve_boot(Unknown, cluster, serving, boot, socket, log);
         if !is_full(&served) {
@@ -216,12 +234,24 @@ impl<'a> Site<'_, 'a> {
         let Some(former) = former else {
             return served;
         };
-        tell_refusal(serving.is_logged, Refusal::Full, log);
-        let boot = Boot::with_turns(former, taken, turns);
+        tell_full(self.alloc, serving.is_logged, &copy, &former, log);
+        let Ok(kept) = kept_rows(self.alloc, &copy, &former) else {
+            return Err(Fault::Database(oathd_database::Fault::Memory));
+        };
+        let boot = Boot::with_turns(kept, taken, turns);
         self.serve_boot(Unknown, cluster, serving, boot, socket, log)
     }
 
-    /// Serves a node over its store by names. Takes its users file again when it changes.
+    /// Refuses to open the store again after a file of it was removed or replaced.
+    fn check_standing(&self, standing: Standing) -> Result<(), Fault<'a>> {
+        if standing.is_over(self.rt, self.database) {
+            return Err(Fault::from(oathd_database::Fault::Store(StoreFault::Disk)));
+        }
+        Ok(())
+    }
+
+    /// Serves a node over its store by names. Takes its users file again when it changes. The store's files stay the
+    /// same from one boot to the next.
     fn serve_boots<S: Start, O: Write>(
         &self,
         start: S,
@@ -241,8 +271,10 @@ impl<'a> Site<'_, 'a> {
         let mut socket = KeptSocket::new();
         let turns = serving.turns;
         let first = Boot::with_turns(text, taken, turns);
+        let standing = Standing::at(self.rt, self.database);
         let mut boot = self.serve_boot(start, cluster, &serving, first, &mut socket, log)?;
         while boot.turns > 0 {
+            self.check_standing(standing)?;
             boot = self.serve_next(cluster, &serving, boot, &mut socket, log)?;
         }
         Ok(())

@@ -1,7 +1,7 @@
 //! Carries out the tasks of the program, and reports their faults with their causes.
 
 use crate::databases::Site;
-use crate::fault::{Fault, ToldFault};
+use crate::fault::{Fault, ReplacedFault, ToldFault};
 use oathd_causes::{
     Cause, Names, database_cause, names_cause, no_user_cause, roster_cause, seats_cause, task_cause,
 };
@@ -40,8 +40,8 @@ impl<'a> TaskFault<'a> for Fault<'a> {
     /// The names in the words of a command over a database.
     type Names = Option<Names<'a>>;
 
-    fn names_of(task: &Task<'a>) -> Option<Names<'a>> {
-        Names::of(task)
+    fn names_of(rt: &HostRuntime, task: &Task<'a>) -> Option<Names<'a>> {
+        Names::of(rt, task)
     }
 
     fn perform_task<R: Read, O: Write>(
@@ -79,6 +79,10 @@ impl<'a> TaskFault<'a> for Fault<'a> {
             None => None,
         };
         match cause {
+            Some(cause) if cause.is_replaced() => {
+                let replaced = ReplacedFault { fault: self, cause };
+                exit_status::<E, ReplacedFault>(errors, PROGRAM, Err(replaced))
+            }
             Some(cause) => {
                 let told = ToldFault { fault: self, cause };
                 exit_status::<E, ToldFault>(errors, PROGRAM, Err(told))

@@ -65,6 +65,13 @@ pub enum Cause<'a> {
     Floors(FloorsAdvice),
 }
 
+impl Cause<'_> {
+    /// Returns whether a file of the store was removed or replaced while the store was in use.
+    pub fn is_replaced(&self) -> bool {
+        matches!(self, Cause::Store(_, StoreCause::Replaced))
+    }
+}
+
 /// Returns the number of rows of the users file at `path`, or None if it cannot be read again, as a pipe can't.
 fn rows_of(alloc: Global, rt: &HostRuntime, path: &str) -> Option<u64> {
     if !fs::metadata(rt, path).ok()?.is_file() {
@@ -101,6 +108,9 @@ fn of_store<'a>(
         is_new: names.is_new,
         is_named,
     };
+    if fault == StoreFault::Disk && names.is_replaced(rt) {
+        return Cause::Store(names.database, StoreCause::Replaced);
+    }
     match store_cause(rt, names.database, fault, expected) {
         Some(cause) => Cause::Store(names.database, cause),
         None => Cause::Path(names.database),

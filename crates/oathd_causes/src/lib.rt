@@ -22,6 +22,7 @@ mod remedy;
 mod roster;
 mod socket;
 mod space;
+mod standing;
 mod user;
 
 pub use address::{AddressCause, address_cause, address_in};
@@ -41,4 +42,5 @@ pub use roster::{
     NamesAdvice, NamesFault, names_advice, names_cause, no_user_cause, roster_cause, seats_cause,
 };
 pub use socket::{SocketCause, socket_cause};
+pub use standing::Standing;
 pub use user::User;

@@ -24,7 +24,9 @@ pub enum StoreCause {
     /// The store is unusable, and nothing shows why.
     #[error("no cause was found: if a table of it is damaged, replace it by oathd init --lost")]
     Damaged,
-    #[error("holds no store: oathd init makes one")]
+    #[error("removed or replaced while it was in use: put the former file back, or replace the store by init --lost")]
+    Replaced,
+    #[error("holds no store: mend the path, put its -wal file back, or replace it by init --lost; init is for a new node")]
     NoStore,
     #[error("holds tables of a store already: serve it, or name another file; never delete a database that served")]
     HasStore,
@@ -40,7 +42,7 @@ pub enum StoreCause {
     #[error("the store of another cluster: its life, its names or its {0} members differ: mend the file or the path")]
     OtherCluster(u64),
     /// The store has no room for the new tokens.
-    #[error("at most 10000 rows, retired ones too: take the new tokens out, or begin again with a new word of names")]
+    #[error("at most 10000 rows, retired ones too: take the new tokens out of the users file, and the others go on")]
     Full,
     /// The store has a version that this program doesn't know.
     #[error("a store of version {0}: use the oathd that made it, or a newer one")]

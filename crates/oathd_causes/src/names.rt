@@ -1,5 +1,6 @@
 //! The files, the node and the address that the words of a command over a database name.
 
+use crate::standing::Standing;
 use cluster_file::{KeySource, read_cluster};
 use oathd_words::{Action, ClientWords, ClusterWords, NamedAct, Task};
 use std::alloc::Global;
@@ -25,6 +26,8 @@ pub struct Names<'a> {
     pub(crate) is_new: bool,
     /// Whether the command gives the tokens of a store names.
     pub(crate) is_naming: bool,
+    /// The files of the database before the command, where they are known.
+    standing: Option<Standing>,
 }
 
 /// Returns the path of the key file, or None if the key is given itself.
@@ -53,6 +56,7 @@ impl<'a> Names<'a> {
             address: None,
             is_new: false,
             is_naming: false,
+            standing: None,
         }
     }
 
@@ -120,18 +124,29 @@ impl<'a> Names<'a> {
         }
     }
 
-    /// Returns the names in the words of `task`, or None if it is not over a database.
-    pub fn of(task: &Task<'a>) -> Option<Self> {
+    /// Returns the names in the words of `task`, which is not yet carried out, or None if it is not over a database.
+    pub fn of(rt: &HostRuntime, task: &Task<'a>) -> Option<Self> {
         match task {
             Task::Store {
                 database,
                 users,
                 action,
             } => {
-                let names = Names::new(*database, *users, task.cluster_path());
+                let names = Names {
+                    standing: Some(Standing::at(rt, *database)),
+                    ..Names::new(*database, *users, task.cluster_path())
+                };
                 Some(names.with_action(action))
             }
             _ => None,
+        }
+    }
+
+    /// Returns whether a file of the database stands at its path no more, since the command began.
+    pub(crate) fn is_replaced(&self, rt: &HostRuntime) -> bool {
+        match self.standing {
+            Some(standing) => standing.is_over(rt, self.database),
+            None => false,
         }
     }
 

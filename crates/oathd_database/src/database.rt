@@ -12,7 +12,7 @@ ghost use Rattle.oathd_database.specs.Users.{IsImported};
 
 use crate::fault::Fault;
 use crate::users::{Users, read_users};
-use floor_sql::SqlStore;
+use floor_sql::{SqlStore, StoreFiles};
 use floor_store::{FloorStore, StoreFault};
 use otp_core::Settings;
 use sqlite::{Alter, Connection};
@@ -23,6 +23,11 @@ use std::io::Read;
 pub trait Database<S: Alter>: Drop {
     // What a connection shows that was just opened.
     ghost finds: { Held S → Type 0 };
+
+    /// Returns the files that a store in it watches, before it is opened, or None if it lies in no file.
+    fn files(&self) -> Option<StoreFiles> {
+        None
+    }
 
     /// Opens the database. The connection is outside a transaction and has no limit on its steps.
     ///
@@ -82,7 +87,7 @@ fn open_named<S: Alter + Drop>(
 /// Reads a users file, and opens the store of its tokens.
 ///
 /// The store belongs to the given node, or, without one, to the node that the tables name. The floors are the store's.
-/// The settings are the server's.
+/// The settings are the server's. The store watches the files of the database.
 ///
 /// # Errors
 /// - Returns `Users` if the users file has a fault or cannot be read. The database is not opened.
@@ -103,7 +108,9 @@ pub fn open_store<R: Read + Drop, S: Alter + Drop, D: Database<S>>(
     ensures fault { IfErr result (λ fault. IfSome (R.remaining users) (IsRefused settings 0 16777216 fault)) }
 {
     let users = read_users(alloc, users, settings, 0)?;
+    let files = database.files();
     let conn = database.connect()?;
-    let store = open_named(alloc, conn, node, &users)?;
+    let mut store = open_named(alloc, conn, node, &users)?;
+    store.watch(files);
     Ok((users, store))
 }

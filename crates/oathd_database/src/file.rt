@@ -4,6 +4,7 @@ ghost use Rattle.std.specs.Prelude.{◌≡◌, ◌↔◌, Err, IfOk, IsErr, IsOk
 ghost use Rattle.oathd_database.specs.File.{IsEmptyFile};
 
 use crate::database::Database;
+use floor_sql::StoreFiles;
 use floor_store::StoreFault;
 use sqlite::{Connection, FileFrom, FileStore, Start};
 use std::fs::{self, Metadata, OpenOptions};
@@ -83,6 +84,10 @@ impl<S: Start> Database<FileStore<FileFrom<S>>> for DatabaseFile<'_, S> {
     ghost use Rattle.oathd_database.specs.File.{FindsFiles};
 
     ghost finds = { FindsFiles (image_at S.Start) };
+
+    fn files(&self) -> Option<StoreFiles> {
+        Some(StoreFiles::at(self.rt, self.path))
+    }
 
     fn connect(self) -> Result<Connection<FileStore<FileFrom<S>>>, StoreFault> {
         let DatabaseFile {

@@ -39,8 +39,9 @@ pub(crate) fn open_rows<S: Alter + Drop, D: Database<S>>(
     ensures each { IfOk result (λ rows. length rows.1.mirror.rows ≡ length rows.0.items) }
     ensures fault { IfErr result (IsNotRead S.Store D.finds cluster.now.bond) }
 {
+    let files = database.files();
     let conn = database.connect()?;
-    match look_named(alloc, conn, node, &[], &cluster.bond) {
+    match look_named(alloc, conn, node, &[], &cluster.bond, files) {
         Ok(looked) => Ok((looked.roster, looked.store.into_inner())),
         Err((_left, fault)) => Err(fault_of(fault)),
     }

@@ -238,8 +238,8 @@ start_is key all names others me number boot known one two three =
     ∙ ap (λ (m : ℕ). new_translator all others m boot known) three
 
 -- what a packer begins with
-abbrev pub start_of : List Bool → List ℕ → StartRecord
-start_of gone_back floors = record { gone_back = gone_back; floors = floors }
+abbrev pub start_of : List Bool → List ℕ → List ℕ → StartRecord
+start_of gone_back known floors = record { gone_back = gone_back; known = known; floors = floors }
 
 -- a packer of the same parts is the same
 pub packer_is : (key all : List ℕ) (names others : List (List ℕ)) (me number boot members count : ℕ) (start : StartRecord) → key ≡ all → names ≡ others → me ≡ number → members ≡ count
@@ -344,7 +344,7 @@ module _ {S : Type 0} (g : Ghosts S) (finds : sql.Held S → Type 0) (cluster : 
       IsSo answers result = IsServedNamed (seated_held (sql_held g)) (operator_acts (seated_held (sql_held g))) first last
           (setup_for serving.place.me serving.members.items serving.lines)
           (new_translator (tag_key serving.key book) (names_of cluster.salt book) serving.place.me boot known)
-          (new_packer (tag_key serving.key book) (names_of cluster.salt book) serving.place.me boot serving.place.n (start_of gone_back starts)) serving.turns
+          (new_packer (tag_key serving.key book) (names_of cluster.salt book) serving.place.me boot serving.place.n (start_of gone_back known starts)) serving.turns
           (DeskAnswers answers) result
 
       served_so : (answers : ℕ → Bool → Bool → Type 0) (result : Result Served Fault) → IsSo answers result

@@ -45,13 +45,13 @@ unmarked marks = map (leb 1) marks
 abbrev begun_in : Setup → StartRecord
 begun_in setup =
     let names = (nearest setup.namings).names in
-    record { gone_back = unmarked (head_in (tail_in names)); floors = rest_in (head_in names) }
+    record { gone_back = unmarked (head_in (tail_in names)); known = head_in (tail_in (tail_in names)); floors = rest_in (head_in names) }
 
 -- the packer of the nearest naming, at its start
 abbrev start_in : Setup → PackerRecord
 start_in setup =
     let naming = nearest setup.namings in
-    new_packer naming.key (tail_in (tail_in naming.names)) naming.me naming.boot (first_in (head_in naming.names)) (begun_in setup)
+    new_packer naming.key (tail_in (tail_in (tail_in naming.names))) naming.me naming.boot (first_in (head_in naming.names)) (begun_in setup)
 
 -- marks tell who is marked
 unmarked_marks : (members : List Bool) → unmarked (marks_of members) ≡ members

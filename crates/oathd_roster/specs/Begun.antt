@@ -1,6 +1,6 @@
 -- The new store of a member that never served, by the names of the tokens of a users file. Floor: the first free factor
 -- of a token at a node.
-use Rattle.std.specs.Prelude.{◌≡◌, ℕ, List, length, Option, if◌then◌else◌}
+use Rattle.std.specs.Prelude.{◌≡◌, ℕ, List, ◌++◌, length, Option, codes, if◌then◌else◌}
 use Rattle.std.specs.Io.KnownBytes.{Appends}
 use Rattle.sqlite.specs.Store.{Ghosts}
 use Rattle.sqlite.specs.Held as sql
@@ -38,10 +38,19 @@ IsNotCreated cluster limits moment longest (SameName row) text =
 IsNotCreated cluster limits moment longest AnotherCluster text = ⊥
 IsNotCreated cluster limits moment longest Full text = ⊥
 
--- what is said of the new store of a member: from when on its time tokens are accepted is as new tokens are enrolled
+-- what is said of the tokens of a new store: from when on its time tokens are accepted is as new tokens are enrolled
+abbrev pub created_text : NamedCluster → Limits → ℕ → PlaceRecord → Content → List Credential → List ℕ
+created_text cluster limits moment place content book =
+    if cluster.is_fresh then fresh_text place content book moment else made_text place content book limits moment
+
+-- what the beginning of a cluster rests on
+abbrev pub basis_text : List ℕ
+basis_text = codes "it rests on this: no member of the cluster ever served, else used codes are good again\n"
+
+-- what is said of the new store of a member
 abbrev pub begun_text : NamedCluster → Limits → ℕ → PlaceRecord → Content → List Credential → List ℕ
 begun_text cluster limits moment place content book =
-    if cluster.is_fresh then fresh_text place content book moment else made_text place content book limits moment
+    created_text cluster limits moment place content book ++ basis_text
 
 module _ {S : Type 0} (g : Ghosts S) (finds : sql.Held S → Type 0) where
   -- The store of `node` at `boot`, with the given entries, floors and bond, is created by one commit in the tables of

@@ -46,13 +46,13 @@ floors_in content = map (λ row. row.next) content.rows
 
 -- the translator at its start
 abbrev pub translator_of : Naming → TranslatorRecord
-translator_of naming = new_translator naming.key naming.names naming.node.me naming.node.boot naming.known
+translator_of naming = new_translator naming.key naming.names naming.node.me naming.node.boot naming.node.known
 
 -- the packer at its start
 abbrev pub packer_of : Naming → PackerRecord
 packer_of naming =
     new_packer naming.key naming.names naming.node.me naming.node.boot naming.node.members
-    (record { gone_back = naming.node.gone_back; floors = naming.floors.items })
+    (record { gone_back = naming.node.gone_back; known = naming.node.known; floors = naming.floors.items })
 
 -- ---- the turns
 
@@ -135,7 +135,8 @@ module _ {S : Type 0} (g : Ghosts S) (finds : sql.Held S → Type 0) (cluster : 
         let me = serving.place.me in
         let held = seated_held (sql_held g) in
         IsServedNamed held (operator_acts held) first last setup (new_translator key names me boot known)
-        (new_packer key names me boot serving.place.n (record { gone_back = gone_back; floors = floors }))
+        (new_packer key names me boot serving.place.n
+        (record { gone_back = gone_back; known = known; floors = floors }))
         serving.turns (DeskAnswers answers) result
 
 -- A command that serves a node by names ends with the fault: before the first turn, or in a turn, with all that was

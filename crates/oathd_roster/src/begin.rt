@@ -11,7 +11,7 @@ ghost use Rattle.named_store.specs.Opened.{HasSeated};
 ghost use Rattle.oathd_database.specs.Users.{IsImported};
 ghost use Rattle.oathd_database.specs.declared.fault.Fault.TheVariants.{CannotWrite};
 ghost use Rattle.oathd_database.specs.Fault.{IsOutputFault};
-ghost use Rattle.oathd_roster.specs.Begun.{HasBegun, IsBegun, IsBegunAt, IsNotBegun, IsNotCreated, begun_text};
+ghost use Rattle.oathd_roster.specs.Begun.{HasBegun, IsBegun, IsBegunAt, IsNotBegun, IsNotCreated, begun_text, created_text};
 ghost use Rattle.oathd_roster.specs.declared.fault.RosterFault.TheVariants.{Command};
 
 use crate::cluster::NamedCluster;
@@ -131,8 +131,35 @@ fn create_named<R: Read + Drop, S: Alter + Drop, D: Database<S>>(
     }
 }
 
+/// What the beginning of a cluster rests on.
+const BASIS: &[u8] =
+    b"it rests on this: no member of the cluster ever served, else used codes are good again\n";
+
 /// Writes what the new store of a member is, as [`write_made`] does. If the secrets of the cluster's new tokens are
 /// new, it writes as [`write_fresh`] does.
+fn write_created<S: FloorStore, W: Write>(
+    cluster: &NamedCluster,
+    place: Place,
+    store: &S,
+    book: &Book,
+    settings: Settings,
+    moment: u64,
+    writer: &mut W,
+) -> Result<(), Fault>
+    requires { IsMoment moment }
+    ensures written { (S.held store.now).is_clean → OnOk result (Appends (W.contents writer.old)
+        (W.contents writer.new)
+        (created_text cluster.now settings moment place (S.held store.now).content book.now)) }
+    ensures fault { IfErr result (IsOutputFault (S.held store.now).fault) }
+{
+    if cluster.is_fresh {
+        write_fresh(place, store, book, moment, writer)
+    } else {
+        write_made(place, store, book, settings, moment, writer)
+    }
+}
+
+/// Writes what the new store of a member is, and what its beginning rests on.
 fn write_begun<S: FloorStore, W: Write>(
     cluster: &NamedCluster,
     place: Place,
@@ -148,10 +175,10 @@ fn write_begun<S: FloorStore, W: Write>(
         (begun_text cluster.now settings moment place (S.held store.now).content book.now)) }
     ensures fault { IfErr result (IsOutputFault (S.held store.now).fault) }
 {
-    if cluster.is_fresh {
-        write_fresh(place, store, book, moment, writer)
-    } else {
-        write_made(place, store, book, settings, moment, writer)
+    write_created(cluster, place, store, book, settings, moment, writer)?;
+    match writer.write_all(BASIS) {
+        Ok(()) => Ok(()),
+        Err(_) => Err(Fault::CannotWrite),
     }
 }
 

@@ -15,8 +15,6 @@ mod names;
 mod naming;
 mod opening;
 mod serve;
-#[cfg(test)]
-mod tests;
 mod users;
 
 pub use begin::{begin_store, open_created};

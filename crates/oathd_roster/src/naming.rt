@@ -2,7 +2,6 @@ ghost use Rattle.std.specs.Prelude.{◌≡◌, ◌≤◌, length};
 
 use floor_port::Membership;
 use named_port::Names;
-use node_log::PLACES;
 use otp_core::Next;
 use vote_wire::ClusterKey;
 
@@ -12,8 +11,6 @@ pub(crate) struct Naming {
     pub(crate) key: ClusterKey,
     pub(crate) names: Names,
     pub(crate) node: Membership,
-    /// The greatest boot in which each member was heard before the start, from member 0 to 9, or 0.
-    pub(crate) known: [u64; PLACES],
     /// The floor of each token at the start, in the order of the names. Floor: the first free factor of a token.
     pub(crate) floors: Vec<Next>,
     ghost few: { length floors.items ≤ 10000 },

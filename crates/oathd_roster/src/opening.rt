@@ -61,10 +61,13 @@ pub fn open_named_store<R: Read + Drop, S: Alter + Drop, D: Database<S>>(
     let Ok(floors) = enrolment_floors(alloc, cluster, &named.users, settings, moment) else {
         return Err(RosterFault::Command(Fault::Memory));
     };
+    let files = database.files();
     let conn = database.connect()?;
     let tokens = named.users.book.len() as u32;
     let (entries, own) = (&named.entries, &cluster.bond);
-    let (store, counts, roster) = match enrol_and_count(alloc, conn, node, entries, &floors, own) {
+    let (store, counts, roster) = match enrol_and_count(
+        alloc, conn, node, entries, &floors, own, files,
+    ) {
         Ok(opened) => opened,
         Err((_, fault)) => return Err(RosterFault::from(fault)),
     };

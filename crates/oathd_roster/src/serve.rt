@@ -112,7 +112,7 @@ fn serve_named<S: FloorStore, P: Gatekeeper + Drop, N: TimeSource, W: Write, U: 
     let Ok(telling) = FloorPort::new(alloc, joining, key, names, member, &naming.floors) else {
         return Err(Fault::Memory);
     };
-    let known = naming.known;
+    let known = member.known;
     let named = NamedPort::new(telling, key, names, member.me, member.boot, known);
     serve_asked(
         node, named, member, is_asked, outside, turns, until, log, writer,
@@ -363,8 +363,8 @@ pub fn serve_named_store<
             boot: start.boot,
             members: place.n(),
             gone_back,
+            known,
         },
-        known,
         floors,
     };
     let bare = ClusterKey::bare();

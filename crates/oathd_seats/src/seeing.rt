@@ -53,8 +53,9 @@ pub(crate) fn see_store<'a, R: Read + Drop, S: Alter + Drop, D: Database<S>>(
         (IsNotSeen S.Store D.finds cluster.now settings 16777216 node fault)) }
 {
     let named = read_named_users(alloc, users, settings, 0, &cluster.salt)?;
+    let files = database.files();
     let conn = database.connect()?;
-    match look_named(alloc, conn, node, &named.entries, &cluster.bond) {
+    match look_named(alloc, conn, node, &named.entries, &cluster.bond, files) {
         Ok(looked) => Ok((named, looked)),
         Err((_left, fault)) => Err(fault_of(fault)),
     }

@@ -111,6 +111,10 @@ keyed_cluster = record small_cluster { key = GivenKey (replicate 16 0) }
 abbrev pub one_token : List Credential
 one_token = event_token (codes "a") ∷ []
 
+-- a users file whose first and third row have one secret
+abbrev pub shared_rows : List ℕ
+shared_rows = codes "HOTP a - 31\nHOTP/T30 b - 31\nHOTP c - 31"
+
 -- the output of a check of the small cluster with a book, under an empty key
 abbrev pub checked : List Credential → List ℕ
 checked book = named_check_text [] small_cluster book

@@ -1,6 +1,13 @@
 -- What the command `check` notes of files that it takes.
 use Rattle.std.specs.Prelude.{ℕ, ◌-◌, ◌/◌, ◌%◌, ◌==◌, ◌&&◌, nat_le, List, [], ◌++◌, map, take, Option, Some, None, codes, if◌then◌else◌}
 use Rattle.std.specs.Fmt.{decimal}
+use Rattle.std.specs.Io.KnownBytes.{Appends}
+use Rattle.otp_core.specs.Limits.{Limits}
+use Rattle.token_file.specs.Credential.{Credential}
+use Rattle.shared_secrets.specs.Repeat.{IsSharedIn}
+use Rattle.shared_secrets.specs.Seed.{seeds_of}
+use Rattle.shared_secrets.specs.declared.shared.SharedSecret.{SharedSecret}
+use Rattle.oathd_tasks.specs.Check.{HasTokens}
 use Rattle.oathd_tasks.specs.Tally.{Found, Tally, tally_of}
 
 -- a byte of a word as it is printed: a graphic byte of ASCII, or `?`
@@ -56,6 +63,30 @@ members_text path members =
 abbrev pub count_text : List ℕ → ℕ → List ℕ
 count_text path members = if members % 2 == 0 then members_text path members else []
 
--- the notes on a users file and a cluster file, each with its path
-abbrev pub notes_text : List ℕ → List ℕ → List ℕ → ℕ → List ℕ
-notes_text users rows cluster members = rows_text users (tally_of rows) ++ count_text cluster members
+-- the note on two rows with one secret
+unfoldable pub shared_text : List ℕ → SharedSecret → List ℕ
+shared_text path rows =
+    head path ++ codes "rows " ++ decimal rows.first ++ codes " and " ++ decimal rows.second
+    ++ codes " have one secret: each accepts its codes\n"
+
+-- the note on two rows with one secret, if there are any
+abbrev pub if_shared : List ℕ → Option SharedSecret → List ℕ
+if_shared path None = []
+if_shared path (Some rows) = shared_text path rows
+
+-- the notes on a users file with these rows of one secret, and on a cluster file, each with its path
+abbrev pub notes_text : List ℕ → List ℕ → Option SharedSecret → List ℕ → ℕ → List ℕ
+notes_text users rows shared cluster members =
+    rows_text users (tally_of rows) ++ if_shared users shared ++ count_text cluster members
+
+-- The rows of a users file that have one secret, as a node with these limits reads it: the same kind and secret.
+pub record IsSharedOf (limits : Limits) (rows : List ℕ) (shared : Option SharedSecret) : Type 0 where
+  pub book : List Credential
+  pub has_tokens : HasTokens limits book rows
+  pub is : IsSharedIn (seeds_of book) shared
+
+-- The notes on a users file and a cluster file are written, with the rows that have one secret.
+pub record AreNoted (limits : Limits) (users rows cluster : List ℕ) (members : ℕ) (old new : Option (List ℕ)) : Type 0 where
+  pub shared : Option SharedSecret
+  pub is : IsSharedOf limits rows shared
+  pub written : Appends old new (notes_text users rows shared cluster members)

@@ -17,7 +17,11 @@ use token_file::{Book, FileFault, FromRead, MAX_FILE_LEN, read_book};
 use vote_wire::ClusterKey;
 
 /// Returns the tokens of a users file, as a node with these settings reads them.
-fn tokens_of<R: Read + Drop>(alloc: Global, users: R, settings: Settings) -> Result<Book, FileFault>
+pub(crate) fn tokens_of<R: Read + Drop>(
+    alloc: Global,
+    users: R,
+    settings: Settings,
+) -> Result<Book, FileFault>
     ensures { IfOk result (λ book. IfSome (R.remaining users) (HasTokens settings book)) }
 {
     let mut source = FromRead::new(users);

@@ -88,7 +88,7 @@ impl From<oathd_lines::Fault> for Fault<'_> {
 impl<'a> TaskFault<'a> for Fault<'a> {
     type Names = ();
 
-    fn names_of(_task: &Task<'a>) {}
+    fn names_of(_rt: &HostRuntime, _task: &Task<'a>) {}
 
     fn perform_task<R: Read, O: Write>(
         alloc: Global,

@@ -11,7 +11,8 @@ ghost use Rattle.oathd_cluster.specs.declared.fault.Fault.TheVariants as cluster
 ghost use Rattle.oathd_sim.specs.declared.fault.Fault.TheVariants as sims;
 ghost use Rattle.oathd_words.specs.declared.store_words.Action.TheVariants.{Export};
 ghost use Rattle.oathd_words.specs.declared.words.Task.TheVariants as tasks;
-ghost use Rattle.oathd_tasks.specs.Broken.{EndsGiven, EndsNamed, checked, clients_fault, done, ended_by, file_fault, found_at, given_nodes, given_row, keyed, keyed_cluster, keyed_text, marked, named_nodes, narrow_limits, no_path, nodes_with_key, one_token, run_ended_by, setup_of, small_text, told_sources, users_fault, usual_setup, word};
+ghost use Rattle.oathd_tasks.specs.Broken.{EndsGiven, EndsNamed, checked, clients_fault, done, ended_by, file_fault, found_at, given_nodes, given_row, keyed, keyed_cluster, keyed_text, marked, named_nodes, narrow_limits, no_path, nodes_with_key, one_token, run_ended_by, setup_of, shared_rows, small_text, told_sources, users_fault, usual_setup, word};
+ghost use Rattle.shared_secrets.specs.Examples.{shared_by};
 ghost use Rattle.clients_file.specs.declared.fault.LineFault.TheVariants.{NoClient, UnknownWord};
 ghost use Rattle.oathd_tasks.specs.Advice.{advice_text, clients_advice, is_base32_in, line_at, row_advice, user_in};
 ghost use Rattle.oathd_tasks.specs.Check.{CheckEndsSo, HasChecked, HasTokens, IsKeyIn, IsOfClusterFile, has_mark};
@@ -20,7 +21,7 @@ ghost use Rattle.oathd_tasks.specs.File.{IsOfFile};
 ghost use Rattle.oathd_tasks.specs.NewCluster.{NewClusterEndsSo, new_cluster_text};
 ghost use Rattle.oathd_tasks.specs.NewKey.{NewKeyEndsSo};
 ghost use Rattle.oathd_tasks.specs.Nodes.{ClusterEndsSo, EndsAsAsked, EndsWithSetup, InputEndsSo, IsKeyOf, IsOfKey, IsOfSetup, IsSetup, LinesEndSo, SecretEndsSo, SimEndsSo};
-ghost use Rattle.oathd_tasks.specs.Notes.{notes_text, printed, rows_text, shown};
+ghost use Rattle.oathd_tasks.specs.Notes.{AreNoted, IsSharedOf, notes_text, printed, rows_text, shown};
 ghost use Rattle.oathd_tasks.specs.Tally.{form_of, no_rows, tally_of};
 ghost use Rattle.oathd_tasks.specs.declared.tally.Form.TheVariants.{Holds, Ignored, InAnotherCase, Nothing};
 ghost use Rattle.oathd_tasks.specs.declared.fault.Fault.TheVariants.{ByteOrderMark, CannotReadFile, Cluster, KeyPath, NoDatabases, NoMember, NoRandom, Run, Sim};
@@ -145,9 +146,25 @@ pub fn notes_are_worked()
         ≡ codes "oathd: note: u: ignored 1, first line 2: hotp\n"
         ++ codes "  a row begins with a type, as HOTP or HOTP/T30, and a comment with #\n"
         ++ codes "oathd: note: u: line 2: hotp is ignored: a type is in upper case\n" }
-    ensures no_note { notes_text (codes "u") (codes "HOTP a - 00") (codes "c") 3 ≡ [] }
-    ensures members { notes_text (codes "u") (codes "HOTP a - 00") (codes "c") 4
+    ensures no_note { notes_text (codes "u") (codes "HOTP a - 00") None (codes "c") 3 ≡ [] }
+    ensures members { notes_text (codes "u") (codes "HOTP a - 00") None (codes "c") 4
         ≡ codes "oathd: note: c: 4 members bear the loss of 1, as 3 would: take an odd number\n" }
+    ensures shared { notes_text (codes "u") (codes "HOTP a - 00\nHOTP b - 00\nx") (Some (shared_by 1 2)) (codes "c") 4
+        ≡ codes "oathd: note: u: ignored 1, first line 3: x\n"
+        ++ codes "  a row begins with a type, as HOTP or HOTP/T30, and a comment with #\n"
+        ++ codes "oathd: note: u: rows 1 and 2 have one secret: each accepts its codes\n"
+        ++ codes "oathd: note: c: 4 members bear the loss of 1, as 3 would: take an odd number\n" }
+{}
+
+/// Counterexamples: each promise of the note on two rows with one secret fails for a minimal one.
+pub fn shared_notes_can_be_broken()
+    ensures rows { IsSharedOf default_limits shared_rows (Some (shared_by 1 3)) }
+    ensures other_rows { IsSharedOf default_limits shared_rows (Some (shared_by 1 2)) → ⊥ }
+    ensures rows_are_missed { IsSharedOf default_limits shared_rows None → ⊥ }
+    ensures no_rows { IsSharedOf default_limits [] None }
+    ensures rows_of_none { IsSharedOf default_limits [] (Some (shared_by 1 3)) → ⊥ }
+    ensures no_note { AreNoted default_limits (codes "u") (codes "HOTP a - 31") (codes "c") 3 (Some []) (Some []) }
+    ensures note_is_missed { AreNoted default_limits (codes "u") shared_rows (codes "c") 3 (Some []) (Some []) → ⊥ }
 {}
 
 /// Worked cases. Where a fault is, and what to do.

@@ -20,6 +20,7 @@ mod notes;
 mod program;
 mod secret_input;
 mod setup;
+mod shared;
 mod tally;
 mod told_check;
 
@@ -31,7 +32,9 @@ pub use fault::Fault;
 pub use key::{file_text, read_key};
 pub use laws::{
     advice_is_worked, checks_can_be_broken, clients_can_be_broken, ends_can_be_broken,
-    keys_can_be_broken, notes_are_worked, setups_can_be_broken, tasks_can_be_broken,
+    keys_can_be_broken, notes_are_worked, setups_can_be_broken, shared_notes_can_be_broken,
+    tasks_can_be_broken,
 };
 pub use notes::printed;
 pub use program::{PROGRAM, TaskFault, run};
+pub use shared::shared_in;

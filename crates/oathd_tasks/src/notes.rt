@@ -3,10 +3,13 @@
 ghost use Rattle.std.specs.Prelude.{◌≡◌, ◌≤◌, ◌-◌, ◌/◌, IfOk, OnOk, if◌then◌else◌, []};
 ghost use Rattle.std.specs.Option.{option_map};
 ghost use Rattle.std.specs.Io.KnownBytes.{Appends};
-ghost use Rattle.oathd_tasks.specs.Notes.{case_text, count_text, empty_text, found_text, head, if_found, members_text, notes_text, printed, row_text, rows_text, shown};
+ghost use Rattle.oathd_tasks.specs.Notes.{AreNoted, case_text, count_text, empty_text, found_text, head, if_found, if_shared, members_text, notes_text, printed, row_text, rows_text, shared_text, shown};
 ghost use Rattle.oathd_tasks.specs.Tally.{found_value, tally_value};
 
+use crate::shared::shared_in;
 use crate::tally::{Found, Tally, tally_of};
+use otp_core::Settings;
+use shared_secrets::SharedSecret;
 use std::alloc::{AllocError, Global};
 use std::io::{self, ErrorKind, Write};
 
@@ -182,23 +185,73 @@ fn write_count<W: Write>(writer: &mut W, path: &str, members: u64) -> io::Result
     Ok(())
 }
 
-/// Writes the notes on the users file at `users` with the text `rows`, and on the number of members in the cluster file
-/// at `cluster`.
-pub(crate) fn write_notes<W: Write>(
+/// Writes the note on two rows with one secret.
+#[tactic(auto, unfolding(crate::specs::Notes::shared_text))]
+fn write_shared<W: Write>(writer: &mut W, path: &str, rows: SharedSecret) -> io::Result<()>
+    ensures { OnOk result (Appends (W.contents writer.old) (W.contents writer.new) (shared_text path.now rows)) }
+{
+    let SharedSecret { first, second } = rows;
+    write_head(writer, path)?;
+    write!(
+        writer,
+        "rows {first} and {second} have one secret: each accepts its codes\n"
+    )
+}
+
+/// Writes the note on two rows with one secret, if there are any.
+fn write_if_shared<W: Write>(
+    writer: &mut W,
+    path: &str,
+    shared: Option<SharedSecret>,
+) -> io::Result<()>
+    ensures { OnOk result (Appends (W.contents writer.old) (W.contents writer.new) (if_shared path.now shared)) }
+{
+    match shared {
+        Some(rows) => write_shared(writer, path, rows),
+        None => Ok(()),
+    }
+}
+
+/// Writes the notes on the users file at `users` with the text `rows`, of which `shared` have one secret, and on the
+/// number of members in the cluster file at `cluster`.
+fn write_each<W: Write>(
     alloc: Global,
     writer: &mut W,
     users: &str,
     rows: &[u8],
+    shared: Option<SharedSecret>,
     cluster: &str,
     members: u64,
 ) -> io::Result<()>
     requires { 1 ≤ members }
     ensures { OnOk result (Appends (W.contents writer.old) (W.contents writer.new)
-        (notes_text users.now rows.now cluster.now members)) }
+        (notes_text users.now rows.now shared cluster.now members)) }
 {
     let Ok(tally) = tally_of(alloc, rows) else {
         return Err(io::Error::from(ErrorKind::OutOfMemory));
     };
     write_rows(alloc, writer, users, &tally)?;
+    write_if_shared(writer, users, shared)?;
     write_count(writer, cluster, members)
+}
+
+/// Writes the notes on the users file at `users` with the text `rows`, which a node with these settings takes, and on
+/// the number of members in the cluster file at `cluster`.
+pub(crate) fn write_notes<W: Write>(
+    alloc: Global,
+    writer: &mut W,
+    users: &str,
+    rows: &[u8],
+    settings: Settings,
+    cluster: &str,
+    members: u64,
+) -> io::Result<()>
+    requires { 1 ≤ members }
+    ensures { OnOk result (AreNoted settings users.now rows.now cluster.now members
+        (W.contents writer.old) (W.contents writer.new)) }
+{
+    match shared_in(alloc, rows, settings) {
+        Ok(shared) => write_each(alloc, writer, users, rows, shared, cluster, members),
+        Err(_) => Err(io::Error::from(ErrorKind::OutOfMemory)),
+    }
 }

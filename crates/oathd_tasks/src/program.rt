@@ -24,8 +24,8 @@ pub trait TaskFault<'a>: ProgramFault + From<Fault<'a>> {
     /// What a report says of the words of a task.
     type Names: Copy;
 
-    /// Returns what a report of the task's fault says of its words.
-    fn names_of(task: &Task<'a>) -> Self::Names;
+    /// Returns what a report of the task's fault says of its words, before the task is carried out.
+    fn names_of(rt: &HostRuntime, task: &Task<'a>) -> Self::Names;
 
     /// Carries out a task, with the text of the cluster file that it names.
     ///
@@ -132,7 +132,7 @@ fn follow_task<'a, T: TaskFault<'a>, R: Read, O: Write, E: Write>(
 ) -> u8
     requires { IsInRange task }
 {
-    let names = T::names_of(&task);
+    let names = T::names_of(rt, &task);
     let path = task.cluster_path();
     match cluster_text(alloc, rt, path) {
         Ok(read) => *text = read,

@@ -69,7 +69,8 @@ pub(crate) fn note<E: Write>(alloc: Global, words: CheckWords<'_>, rows: &[u8], 
     match cluster_in(alloc, words.text) {
         Ok(cluster) => {
             let members = cluster.members.len() as u64;
-            let _ = write_notes(alloc, errors, words.users, rows, words.cluster, members);
+            let (users, settings) = (words.users, cluster.settings);
+            let _ = write_notes(alloc, errors, users, rows, settings, words.cluster, members);
         }
         Err(_) => {}
     }

@@ -15,8 +15,6 @@ mod request;
 mod status;
 mod status_laws;
 mod status_line;
-#[cfg(test)]
-mod tests;
 mod worked;
 
 pub use commits::{Bucket, CommitTimes};

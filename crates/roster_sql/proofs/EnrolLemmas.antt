@@ -1,5 +1,5 @@
 -- A store of version 3 that gets further tokens.
-use Rattle.std.proofs.Common.{◌≡◌, ◌≢◌, ◌<◌, ◌+◌, ℕ, pos, List, [], ◌∷◌, ◌++◌, get_or, length, map, take, inl, inr, Ok, refl, sym, ap, subst, ◌∙◌, arith, append_assoc, append-nil, length-append}
+use Rattle.std.proofs.Common.{◌≡◌, ◌≢◌, ◌<◌, ◌+◌, ℕ, pos, List, [], ◌∷◌, ◌++◌, get_or, length, map, take, inl, inr, Result, Ok, Err, OnOk, IfErr, refl, sym, ap, subst, ◌∙◌, arith, append_assoc, append-nil, length-append}
 use Rattle.std.proofs.lemmas.List.{length-map, length-take-le, map_more}
 use Rattle.sqlite.specs.declared.types.Value.TheVariants.{Null, Int}
 use Rattle.sqlite.specs.Command.TheVariants.{Update}
@@ -11,7 +11,10 @@ use Rattle.sqlite.specs.Query.{IsAnswer}
 use Rattle.sqlite.specs.Program.{overlay}
 use Rattle.sqlite.specs.Tree.{rowid, has_rowid, put_row, without_rowid}
 use Rattle.sqlite.specs.Effect.{Database}
+use Rattle.sqlite.specs.Store.{Ghosts}
+use Rattle.sqlite.specs.Held.{state}
 use Rattle.sqlite.specs.State.{State, Executes}
+use Rattle.sqlite.specs.declared.transaction.Transaction.{Transaction}
 use Rattle.sqlite.proofs.Callers.{runs_as}
 use Rattle.sqlite_rules.specs.Calls.{ids_of}
 use Rattle.sqlite_rules.proofs.ListLemmas.{has_found}
@@ -22,8 +25,13 @@ use Rattle.floor_store.specs.declared.fault.StoreFault.TheVariants.{Unusable}
 use Rattle.floor_sql.specs.Created.{AddsDrift, AddsFloor}
 use Rattle.floor_sql.specs.Refusals.{ChangesNotOne}
 use Rattle.floor_sql.specs.Schema.{self, schema_of}
-use Rattle.floor_sql.specs.Stored.{HasOneRow, HasRow, HasVersion, HoldsRow, HoldsRows, drift_columns, drift_row, drift_values, floor_columns, floor_row, floor_values, self_columns, version_row, version_values}
+use Rattle.floor_sql.specs.Steps.{Changes}
+use Rattle.floor_sql.specs.declared.read.Refusal.{Refusal}
+use Rattle.floor_sql.specs.Stored.{HasOneRow, HasRow, HasVersion, HoldsRow, HoldsRows, drift_columns, drift_row, drift_values, floor_columns, floor_row, floor_values, rows_of, self_columns, version_row, version_values}
 use Rattle.floor_sql.specs.declared.schema.Format.TheVariants.{Named}
+use Rattle.floor_sql.specs.Staged.{CanPut, KeepsOneRows, MakesPuts, passes_in, with_puts}
+use Rattle.floor_sql.specs.declared.put.Put.{Put}
+use Rattle.floor_sql.proofs.StagedLemmas.{length_with_puts}
 use Rattle.floor_sql.proofs.BootLemmas.{picks_one}
 use Rattle.floor_sql.proofs.ContentLemmas.{one_shown, passes_stay, row_stays, rows_stay}
 use Rattle.floor_sql.proofs.HoldLemmas.{floor_shows, put_in, stays_beside}
@@ -34,7 +42,7 @@ use Rattle.floor_sql.proofs.RefusalLemmas.{never_of_text}
 use Rattle.floor_sql.proofs.TextLemmas.{by_one, plain_program}
 use Rattle.floor_sql.proofs.UpdateLemmas.{picks, changed_row, updated, cast_int, cast_null}
 use Rattle.floor_sql.proofs.UsableLemmas.{only_shown, filter_same}
-use Rattle.roster_sql.specs.Enrolled.{AddsRow, AddsRows, Appends, Enrols, SetsTokens, with_floors}
+use Rattle.roster_sql.specs.Enrolled.{AddsRow, AddsRows, Appends, Enrols, Grows, LacksOne, SetsTokens, with_floors}
 use Rattle.roster_sql.specs.Made.{AddsEntries, IsStoreOf}
 use Rattle.roster_sql.specs.Roster.{BondRecord, HoldsNamed, HoldsRoster, bond_columns, bond_values, entry_columns, entry_values}
 use Rattle.roster_sql.specs.Text.{update_tokens}
@@ -196,14 +204,70 @@ module _ (s0 s1 s2 : Database) (tokens : ℕ) (floors : List ℕ) (entries : Lis
         refl,
       )
 
-pub enrolled : (node tokens : ℕ) (floors : List ℕ) (entries : List Entry) (old new : Database) → IsStoreOf Named old node tokens
-    → Appends tokens floors entries old new → Enrols node tokens floors entries old new
-enrolled node tokens floors entries old new was appends = record {
+-- rows are put, and further ones are appended
+pub grown : (tokens count : ℕ) (puts : List Put) (floors : List ℕ) (entries : List Entry) (old mid new : Database) → MakesPuts count puts old mid
+    → KeepsOneRows old.trees mid.trees → Appends tokens floors entries mid new → Grows tokens count puts floors entries old new
+grown tokens count puts floors entries old mid new made keeps appends c passes former own was long counted =
+    let it = made Named c passes was.schema was.holds counted in
+    let rows : length (with_puts c puts).rows ≡ length c.rows = length_with_puts c puts in
+    let mid_held : HoldsNamed mid (with_puts c puts) (passes ++ passes_in puts) former own = record {
+      schema = it.0;
+      holds = it.1;
+      roster = λ token entry got. row_stays (old.trees 4) (mid.trees 4) token entry_columns (entry_values token entry) (keeps.others 4 (omega arith)) (was.roster token entry got);
+      counted = was.counted ∙ sym rows;
+      bond = row_stays (old.trees 5) (mid.trees 5) 1 bond_columns (bond_values own) (keeps.others 5 (omega arith)) was.bond;
+    } in
+    let values : version_values 3 it.1.node (length (with_puts c puts).rows) (with_puts c puts).boot ≡ version_values 3 was.holds.node (length c.rows) c.boot =
+    one_shown (mid.trees 0) 1 self_columns _ _ it.1.self (row_stays (old.trees 0) (mid.trees 0) 1 self_columns (version_values 3 was.holds.node (length c.rows) c.boot) keeps.self was.holds.self) in
+    let node : it.1.node ≡ was.holds.node = cc in
+    let last = appends (with_puts c puts) (passes ++ passes_in puts) former own mid_held (rows ∙ long) in
+    (last.0, last.1 ∙ node)
+
+-- no rows are put, and further ones are appended
+grown_alone : (tokens count : ℕ) (puts : List Put) (floors : List ℕ) (entries : List Entry) (old new : Database) → length puts ≡ 0
+    → Appends tokens floors entries old new → Grows tokens count puts floors entries old new
+grown_alone tokens count [] floors entries old new none appends c passes former own was long counted =
+    subst (λ (all : List PassRecord). (now : HoldsNamed new (with_floors floors c) all (former ++ entries) own) × (now.holds.node ≡ was.holds.node))
+    (sym (append-nil passes)) (appends c passes former own was long)
+grown_alone tokens count (put ∷ puts) floors entries old new none appends c passes former own was long counted = absurd (omega (arith, none))
+
+-- what a result has, and what follows
+on_ok : {A : Type 0} (r : Result A Refusal) {P Q : Type 0} → (P → Q) → OnOk r P → OnOk r Q
+on_ok (Ok a) f p = f p
+on_ok (Err e) f p = tt
+
+if_err : {A : Type 0} (r : Result A Refusal) {P Q : Refusal → Type 0} → ((e : Refusal) → P e → Q e) → IfErr r P → IfErr r Q
+if_err (Ok a) f p = tt
+if_err (Err e) f p = f e p
+
+pub only_grows : {S A : Type 0} (g : Ghosts S) (tokens count : ℕ) (puts : List Put) (floors : List ℕ) (entries : List Entry) {old new : Transaction S}
+    {r : Result A Refusal} → length puts ≡ 0
+    → Changes g old new (Appends tokens floors entries) (λ db. ¬ HasOneRow (rows_of self db.trees) 1) r
+    → Changes g old new (Grows tokens count puts floors entries) (LacksOne puts) r
+only_grows g tokens count puts floors entries {old} {new} {r} none it = record {
+  steps = it.steps;
+  made = λ clean. on_ok r (grown_alone tokens count puts floors entries (state g old.conn.now).now (state g new.conn.now).now none) (it.made clean);
+  unusable = λ clean. if_err r (λ e lacks same. record { is = λ rows. lacks same }) (it.unusable clean);
+}
+
+pub version_kept : (count : ℕ) (puts : List Put) (old mid : Database) → CanPut old count puts → MakesPuts count puts old mid → KeepsOneRows old.trees mid.trees
+    → HasVersion old (schema_of Named) 3 → HasVersion mid (schema_of Named) 3
+version_kept count puts old mid can made keeps it = record {
+  schema = (made can.format can.content can.passes can.schema can.holds can.counted).0 ∙ sym can.schema ∙ it.schema;
+  node = it.node;
+  tokens = it.tokens;
+  boot = it.boot;
+  held = row_stays (old.trees 0) (mid.trees 0) 1 self_columns (version_values 3 it.node it.tokens it.boot) keeps.self it.held;
+}
+
+pub enrolled : (node tokens count : ℕ) (puts : List Put) (floors : List ℕ) (entries : List Entry) (old new : Database) → IsStoreOf Named old node tokens
+    → Grows tokens count puts floors entries old new → Enrols node tokens count puts floors entries old new
+enrolled node tokens count puts floors entries old new was grows = record {
   was = was;
-  same = λ c passes former own held.
+  same = λ c passes former own held numbered.
       let values : version_values 3 node tokens was.boot ≡ version_values 3 held.holds.node (length c.rows) c.boot = one_shown (old.trees 0) 1 self_columns _ _ was.self held.holds.self in
       let of_node : held.holds.node ≡ node = cc in
       let counted : length c.rows ≡ tokens = cc in
-      let it = appends c passes former own held counted in
+      let it = grows c passes former own held counted numbered in
       (it.0, it.1 ∙ of_node);
 }

@@ -78,4 +78,4 @@ three_tokens = store_of (self_of 3) (three_floors 9 5 6) three_drifts three_entr
 
 -- the tables `new` are of that store of `node` with `tokens` tokens, after two tokens were enrolled
 abbrev pub EnrolsTwo : ℕ → ℕ → Database → Type 0
-EnrolsTwo node tokens new = Enrols node tokens (5 ∷ 6 ∷ []) (entry_of 3 4 ∷ entry_of 5 6 ∷ []) one_token new
+EnrolsTwo node tokens new = Enrols node tokens 0 [] (5 ∷ 6 ∷ []) (entry_of 3 4 ∷ entry_of 5 6 ∷ []) one_token new

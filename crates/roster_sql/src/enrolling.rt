@@ -1,22 +1,25 @@
 //! Gives a store of version 3 further tokens.
 
-ghost use Rattle.std.specs.Prelude.{◌≡◌, ◌≤◌, ◌+◌, length, false, IsTrue};
+ghost use Rattle.std.specs.Prelude.{◌≡◌, ◌≤◌, ◌<◌, ◌+◌, ◌^◌, length, false, IsTrue};
 ghost use Rattle.sqlite.specs.Held.{state};
 ghost use Rattle.sqlite.specs.State.{HasCleanDisk};
 ghost use Rattle.floor_sql.specs.Schema as tables;
 ghost use Rattle.floor_sql.specs.Schema.{schema_of};
 ghost use Rattle.floor_sql.specs.Shown.{IsLeft};
+ghost use Rattle.floor_sql.specs.Staged.{CanPut};
 ghost use Rattle.floor_sql.specs.Steps.{Changes, Transacts};
 ghost use Rattle.floor_sql.specs.Stored.{HasOneRow, HasVersion, KeepsCommit, rows_of};
 ghost use Rattle.floor_sql.specs.declared.schema.Format.TheVariants.{Named};
-ghost use Rattle.roster_sql.specs.Enrolled.{AddsRow, AddsRows, Appends, Enrols, SetsTokens};
-ghost use Rattle.roster_sql.specs.Made.{IsUsableStoreOf};
+ghost use Rattle.roster_sql.specs.Enrolled.{AddsRow, AddsRows, Appends, Enrols, Grows, LacksAny, LacksOne, MayPut};
+ghost use Rattle.roster_sql.specs.Enrolled.{SetsTokens};
 
 use crate::checking::check_tables;
 use crate::entry::Entry;
 use crate::making::insert_entries;
 use crate::texts::UPDATE_TOKENS;
-use floor_sql::{Format, Refusal, change_one, insert_drift, insert_floor, token_params};
+use floor_sql::{
+    Format, Put, Refusal, change_one, insert_drift, insert_floor, put_all, token_params,
+};
 use otp_core::Next;
 use sqlite::{Alter, Connection, Transaction};
 
@@ -88,23 +91,80 @@ fn append_tokens<S: Alter>(
     Ok(())
 }
 
-/// Appends the rows of further tokens in one transaction.
+/// Puts rows of tokens that are there, and appends the rows of further tokens.
+fn put_and_append<S: Alter>(
+    tx: &mut Transaction<'_, S>,
+    tokens: u32,
+    count: u64,
+    puts: &[Put],
+    floors: &[Next],
+    entries: &[Entry],
+) -> Result<(), Refusal>
+    requires numbers { tokens + length floors.now ≤ 10000 }
+    requires counted { length entries.now ≡ length floors.now }
+    requires range { count + length puts.now < 2 ^ 63 }
+    requires inside { HasCleanDisk (state S.Store tx.old.conn.now)
+        → IsTrue (state S.Store tx.old.conn.now).in_transaction }
+    requires there { HasCleanDisk (state S.Store tx.old.conn.now)
+        → HasVersion (state S.Store tx.old.conn.now).now (schema_of Named) 3 }
+    requires can { HasCleanDisk (state S.Store tx.old.conn.now)
+        → CanPut (state S.Store tx.old.conn.now).now count puts.now }
+    ensures { Changes S.Store tx.old tx.new (Grows tokens count puts.now floors.now entries.now)
+        (LacksOne puts.now) result }
+{
+    put_all(tx, puts, count)?;
+    append_tokens(tx, tokens, floors, entries)?;
+    Ok(())
+}
+
+/// Puts rows of tokens that are there, if there are puts, and appends the rows of further tokens.
+fn grow_tokens<S: Alter>(
+    tx: &mut Transaction<'_, S>,
+    tokens: u32,
+    count: u64,
+    puts: &[Put],
+    floors: &[Next],
+    entries: &[Entry],
+) -> Result<(), Refusal>
+    requires numbers { tokens + length floors.now ≤ 10000 }
+    requires counted { length entries.now ≡ length floors.now }
+    requires range { count + length puts.now < 2 ^ 63 }
+    requires inside { HasCleanDisk (state S.Store tx.old.conn.now)
+        → IsTrue (state S.Store tx.old.conn.now).in_transaction }
+    requires there { HasCleanDisk (state S.Store tx.old.conn.now)
+        → HasVersion (state S.Store tx.old.conn.now).now (schema_of Named) 3 }
+    requires can { HasCleanDisk (state S.Store tx.old.conn.now)
+        → MayPut (state S.Store tx.old.conn.now).now count puts.now }
+    ensures { Changes S.Store tx.old tx.new (Grows tokens count puts.now floors.now entries.now)
+        (LacksOne puts.now) result }
+{
+    if puts.is_empty() {
+        return append_tokens(tx, tokens, floors, entries);
+    }
+    put_and_append(tx, tokens, count, puts, floors, entries)
+}
+
+/// Puts rows and appends the rows of further tokens in one transaction.
 fn write_tokens<S: Alter>(
     conn: &mut Connection<S>,
     tokens: u32,
+    count: u64,
+    puts: &[Put],
     floors: &[Next],
     entries: &[Entry],
 ) -> Result<(), Refusal>
     requires idle { conn.old.in_transaction ≡ false }
     requires numbers { tokens + length floors.now ≤ 10000 }
     requires counted { length entries.now ≡ length floors.now }
+    requires range { count + length puts.now < 2 ^ 63 }
     requires there { HasCleanDisk (state S.Store conn.old)
         → HasVersion (state S.Store conn.old).now (schema_of Named) 3 }
-    ensures { Transacts S.Store (λ e. e.0) conn.old conn.new (Appends tokens floors.now entries.now) KeepsCommit
-        (λ db. ¬ HasOneRow (rows_of tables.self db.trees) 1) result }
+    requires can { HasCleanDisk (state S.Store conn.old) → MayPut (state S.Store conn.old).now count puts.now }
+    ensures { Transacts S.Store (λ e. e.0) conn.old conn.new (Grows tokens count puts.now floors.now entries.now)
+        KeepsCommit (LacksOne puts.now) result }
 {
     let mut tx = conn.transaction();
-    match append_tokens(&mut tx, tokens, floors, entries) {
+    match grow_tokens(&mut tx, tokens, count, puts, floors, entries) {
         Ok(()) => {}
         Err(refusal) => return Err(refusal),
     }
@@ -114,10 +174,11 @@ fn write_tokens<S: Alter>(
     }
 }
 
-/// Enrols further tokens in a store of version 3, in one transaction.
+/// Puts rows of a store of version 3 and enrols further tokens in it, in one transaction.
 ///
-/// The store is of `node` and has `tokens` tokens. Each new token has the floor and the entry at its place in the two
-/// lists, and gets a number after the others. The connection must be outside a transaction.
+/// The store is of `node` and has `tokens` tokens and `count` passes. The puts are of these tokens, in order. Each new
+/// token has the floor and the entry at its place in the two lists, and gets a number after the others. The connection
+/// must be outside a transaction.
 ///
 /// # Errors
 /// - Returns `Unusable` if the tables are not of version 3, of another node, or of another number of tokens.
@@ -126,16 +187,21 @@ pub fn enrol<S: Alter>(
     conn: &mut Connection<S>,
     node: u8,
     tokens: u32,
+    count: u64,
+    puts: &[Put],
     floors: &[Next],
     entries: &[Entry],
 ) -> Result<(), Refusal>
     requires idle { conn.old.in_transaction ≡ false }
     requires numbers { tokens + length floors.now ≤ 10000 }
     requires counted { length entries.now ≡ length floors.now }
-    ensures { Transacts S.Store (λ e. e.0) conn.old conn.new (Enrols node tokens floors.now entries.now) IsLeft
-        (λ db. ¬ IsUsableStoreOf Named db node tokens) result }
+    requires range { count + length puts.now < 2 ^ 63 }
+    requires can { HasCleanDisk (state S.Store conn.old) → MayPut (state S.Store conn.old).now count puts.now }
+    ensures { Transacts S.Store (λ e. e.0) conn.old conn.new
+        (Enrols node tokens count puts.now floors.now entries.now) IsLeft
+        (LacksAny node tokens puts.now) result }
 {
     check_tables(conn, Format::Named, node, tokens)?;
-    write_tokens(conn, tokens, floors, entries)?;
+    write_tokens(conn, tokens, count, puts, floors, entries)?;
     Ok(())
 }

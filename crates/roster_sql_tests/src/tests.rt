@@ -150,7 +150,7 @@ pub(crate) fn enrols<S: Alter>(
     {
         return Err(StoreFault::Spent);
     }
-    match enrol(conn, node, tokens, floors, entries) {
+    match enrol(conn, node, tokens, 0, &[], floors, entries) {
         Ok(()) => Ok(()),
         Err(refusal) => Err(refusal.0),
     }

@@ -4,3 +4,7 @@ pub mod Doings
 pub mod Stores
 pub mod Safe
 pub mod Below
+pub mod Votes
+pub mod SeatVotes
+pub mod SeatSeeds
+pub mod Seeds

@@ -15,6 +15,7 @@ use Rattle.vote_core.specs.Voting.{Voted, fresh_voter, pass_in}
 use Rattle.vote_core.proofs.Names.{by_test}
 use Rattle.seat_law.specs.Below.{Site, site_of}
 use Rattle.seat_law.specs.Seats.{Sites, free_of, row_at, stored_row, with_own}
+use Rattle.seat_law.specs.Votes.{kept_row}
 use Rattle.seat_law.proofs.Last.{IsBlind, relast, relasted}
 
 -- ---- numbers and names
@@ -102,6 +103,12 @@ free_same s r i t k =
     cond_both (s.enrolled i t) (stored_row s i t).next 0 (λ m. x ≡ m)
     (λ q. ap (λ (y : RowRecord). y.next) (stored_is s i t (k.nodes i) q))
     (λ q. ap (λ (y : RowRecord). y.next) ((k.nodes i).free t q))
+
+-- the canonical row of any token is the one that the store keeps
+pub row_same : (s : Sites) (r : Roster) (i t : ℕ) → Sim s r → row (r.cluster.nodes i).content t ≡ kept_row s i t
+row_same s r i t k =
+    cond_both (s.enrolled i t) (stored_row s i t) (opening_row 0) (λ m. row (r.cluster.nodes i).content t ≡ m)
+    (λ q. stored_is s i t (k.nodes i) q) (λ q. (k.nodes i).free t q)
 
 -- ---- choices
 

@@ -73,7 +73,7 @@ go_sim (x ∷ xs) e s r posts k =
 
 -- ---- what is read of a member
 
-seats_take : (k : ℕ) (xs : List Course) (e : ℕ) (s : Sites) → take k (happenings_at e xs s) ≡ happenings_at e (take k xs) s
+pub seats_take : (k : ℕ) (xs : List Course) (e : ℕ) (s : Sites) → take k (happenings_at e xs s) ≡ happenings_at e (take k xs) s
 unfolding happenings_at
 seats_take zero [] e s = refl
 seats_take zero (x ∷ xs) e s = refl
@@ -231,7 +231,7 @@ module _ (n tokens : ℕ) (boot : ℕ → ℕ) (old : List Envelope) (xs : List 
     };
   }
 
-  start_sims : (ys : List Course) → Sim (go 0 ys blank) (served n tokens (blank_opening boot old) none_enrolled (happenings_at 0 ys blank))
+  pub start_sims : (ys : List Course) → Sim (go 0 ys blank) (served n tokens (blank_opening boot old) none_enrolled (happenings_at 0 ys blank))
   start_sims ys = go_sim ys 0 blank (opened n tokens (blank_opening boot old) none_enrolled) blank_posts blank_sim
 
   whole_sim : Sim (go 0 xs blank) (served n tokens (blank_opening boot old) none_enrolled hs)

@@ -5,5 +5,10 @@
 #![tactic(auto)]
 
 mod laws;
+mod seed_laws;
 
 pub use laws::{seats_are_safe, sites_are_seated_stores, sites_are_worked, sites_can_be_broken};
+pub use seed_laws::{
+    acceptances_have_votes, seats_of_seeds_are_safe, seats_of_seeds_can_be_broken, seeds_are_safe,
+    seeds_can_be_broken, votes_can_be_broken,
+};

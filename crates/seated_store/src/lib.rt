@@ -6,8 +6,6 @@
 
 mod laws;
 mod store;
-#[cfg(test)]
-mod tests;
 
 pub use laws::{seats_are_worked, seats_can_be_broken};
 pub use store::{BelowReading, SeatedStore};

@@ -1,4 +1,4 @@
--- The new rows of an opening by names, enrolled one after the other.
+-- The new rows of an opening by names, enrolled one after the other, behind the rows that it raises.
 use Rattle.std.proofs.Common.{◌≡◌, ℕ, zero, suc, ◌+◌, ◌<◌, Bool, true, false, cond, not, List, [], ◌∷◌, ◌++◌, length, map, ltb, Some, None, refl, sym, ap, subst, ◌∙◌, append_assoc, append-nil, arith}
 use Rattle.std.specs.Prelude.{Contains, slice_get}
 use Rattle.std.specs.Option.{option_map}
@@ -11,12 +11,14 @@ use Rattle.otp_core.specs.Limits.{Limits}
 use Rattle.token_file.specs.Credential.{Credential}
 use Rattle.floor_store.specs.Content.{Content, opening_row}
 use Rattle.floor_sql.specs.Held.{SqlHeld}
+use Rattle.floor_sql.specs.Staged.{with_puts}
+use Rattle.floor_sql.specs.declared.put.Put.{Put}
 use Rattle.roster_sql.specs.Enrolled.{with_floors}
 use Rattle.roster_sql.specs.declared.entry.Entry.{Entry}
 use Rattle.seated_store.specs.Seated.{SeatedRecord}
 use Rattle.named_store.specs.Entries.{entries_of}
 use Rattle.named_store.specs.Floors.{seeded_floor}
-use Rattle.named_store.specs.Opened.{floors_in, new_floors}
+use Rattle.named_store.specs.Opened.{floors_in, new_floors, rises}
 use Rattle.named_store.specs.Seating.{has_name, name_at, new_entries, new_from, new_places, rows_after}
 use Rattle.named_store.specs.declared.opening.RowCounts.{RowCounts}
 use Rattle.named_store.proofs.IndexLemmas.{name_stays}
@@ -27,11 +29,13 @@ use Rattle.vote_core.specs.Books.{is_number}
 use Rattle.book_law.specs.Lives.{Down, Enrols, Process, Setting, Store, has_row, may_enrol, row_of, store_at, store_with_row}
 use Rattle.book_law.specs.Uses.{AreUses, store_after, written_store}
 use Rattle.name_law.specs.Datagrams.{AreNames}
-use Rattle.served_law.specs.Enrolled.{IsEnrolledFrom, enrolments}
+use Rattle.served_law.specs.Enrolled.{IsEnrolledFrom, enrolments, opening_uses, raises}
 use Rattle.served_law.specs.Seated.{AreKnown, HasKnownRows, row_names, store_by_names, token_of}
-use Rattle.served_law.proofs.Rows.{AreApart, after_apart, one_roster}
+use Rattle.served_law.proofs.Raised.{AreApartSeats, all_raised, raises_keep_boot}
+use Rattle.served_law.proofs.Rows.{AreApart, after_apart, apart, one_roster}
 use Rattle.served_law.proofs.Seated.{known_names, row_name}
 use Rattle.served_law.proofs.Tokens.{token_absent, token_low}
+use Rattle.served_law.proofs.Uses.{after_append, uses_append}
 
 -- ---- rows in front of others
 
@@ -107,16 +111,46 @@ all_enrolled setting node names former (e ∷ new) content (floor ∷ floors) ar
       ap (store_after setting (enrolments node names new floors)) one ∙ rest.1 ∙ (λ i. store_by_names names (rows i) (more_rows content floor floors i)),
     )
 
--- ---- enrolments leave the boot
+-- ---- the uses of an opening leave the boot
 
-pub boot_kept : (setting : Setting) (node : ℕ) (names : List (List ℕ)) (new : List Entry) (floors : List ℕ) (store : Store)
+enrolments_keep_boot : (setting : Setting) (node : ℕ) (names : List (List ℕ)) (new : List Entry) (floors : List ℕ) (store : Store)
     → (store_after setting (enrolments node names new floors) store).content.boot ≡ store.content.boot
-boot_kept setting node names [] floors store = refl
-boot_kept setting node names (e ∷ new) [] store = refl
-boot_kept setting node names (e ∷ new) (floor ∷ floors) store =
-    boot_kept setting node names new floors (written_store setting (Enrols node (token_of names e.name) floor) store)
+enrolments_keep_boot setting node names [] floors store = refl
+enrolments_keep_boot setting node names (e ∷ new) [] store = refl
+enrolments_keep_boot setting node names (e ∷ new) (floor ∷ floors) store =
+    enrolments_keep_boot setting node names new floors (written_store setting (Enrols node (token_of names e.name) floor) store)
     ∙ cond_both (may_enrol setting (token_of names e.name) store) (Down (store_with_row (token_of names e.name) floor store)) (Down store)
     (λ (p : Process). (store_at p).content.boot ≡ store.content.boot) (λ _. refl) (λ _. refl)
+
+pub boot_kept : (setting : Setting) (node : ℕ) (names : List (List ℕ)) (former : List Entry) (puts : List Put) (new : List Entry) (floors : List ℕ) (store : Store)
+    → (store_after setting (opening_uses node names former puts new floors) store).content.boot ≡ store.content.boot
+boot_kept setting node names former puts new floors store =
+    ap (λ (s : Store). s.content.boot) (after_append setting (raises node names former puts) (enrolments node names new floors) store)
+    ∙ enrolments_keep_boot setting node names new floors (store_after setting (raises node names former puts) store)
+    ∙ raises_keep_boot setting node names former puts store
+
+-- ---- raises, and enrolments after them
+
+-- the uses of an opening do what it does
+record AreOpened (setting : Setting) (node : ℕ) (names : List (List ℕ)) (roster new : List Entry) (c : Content) (puts : List Put) (floors : List ℕ) : Type 0 where
+  uses : AreUses setting node (store_by_names names roster c) (opening_uses node names roster puts new floors)
+  after : store_after setting (opening_uses node names roster puts new floors) (store_by_names names roster c)
+      ≡ store_by_names names (roster ++ new) (with_floors floors (with_puts c puts))
+
+all_opened : (setting : Setting) (node : ℕ) (names : List (List ℕ)) (roster new : List Entry) (c : Content) (seats floors : List ℕ)
+    → AreNames names → setting.tokens ≡ length names → AreKnown names (roster ++ new) → AreApart roster → AreApart (roster ++ new) → AreApartSeats seats → length new ≡ length floors
+    → AreOpened setting node names roster new c (rises roster seats c) floors
+all_opened setting node names roster new c seats floors are members known apart all_apart once long =
+    let puts : List Put = rises roster seats c in
+    let store : Store = store_by_names names roster c in
+    let raised = all_raised setting node names roster c are (λ i x at. known i x (get_left roster new i x at)) apart seats c once (λ i t at. refl) in
+    let enrolled = all_enrolled setting node names roster new (with_puts c puts) floors are members known all_apart long in
+    record {
+      uses = uses_append setting node (raises node names roster puts) (enrolments node names new floors) store raised.uses
+          (subst (λ (s : Store). AreUses setting node s (enrolments node names new floors)) (sym raised.after) enrolled.0);
+      after = after_append setting (raises node names roster puts) (enrolments node names new floors) store
+          ∙ ap (store_after setting (enrolments node names new floors)) raised.after ∙ enrolled.1;
+    }
 
 -- ---- the opening
 
@@ -147,17 +181,18 @@ module _ {S : Type 0} (g : Ghosts S) (finds : sql.Held S → Type 0) (cluster : 
       let held = grown.now in
       let long : length (rows_after has.roster entries) ≡ length rows = held.counted ∙ ap (λ (c : Content). length c.rows) (sym grown.seen) ∙ sym its.has.holds.counted in
       let same : rows_after has.roster entries ≡ rows = one_roster (sql.state g store.inner.conn).now.trees (rows_after has.roster entries) rows held.roster its.has.holds.roster long in
-      let all = all_enrolled setting node names has.roster new grown.content (new_floors has.roster entries enrolled grown.content) its.are_names members
-      (subst (AreKnown names) (sym same) its.known) (after_apart has.roster entries has.distinct opened.names_apart) (floors_long has.roster entries enrolled grown.content) in
+      let all = all_opened setting node names has.roster new grown.content store.seats (new_floors has.roster entries enrolled grown.content) its.are_names members
+      (subst (AreKnown names) (sym same) its.known) (apart has.roster has.distinct) (after_apart has.roster entries has.distinct opened.names_apart) has.seated.apart.apart (floors_long has.roster entries enrolled grown.content) in
       record {
         former = has.roster;
         content = grown.content;
         passes = grown.passes;
         was = grown.was;
         of_node = grown.of_node;
+        puts = rises has.roster store.seats grown.content;
         new = new;
         floors = new_floors has.roster entries enrolled grown.content;
         each = floors_long has.roster entries enrolled grown.content;
-        uses = all.0;
-        after = all.1 ∙ (λ i. store_by_names names (same i) (sym grown.seen i));
+        uses = all.uses;
+        after = all.after ∙ (λ i. store_by_names names (same i) (sym grown.seen i));
       }

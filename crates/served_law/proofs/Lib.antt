@@ -1,6 +1,10 @@
+pub mod Uses
 pub mod Rows
 pub mod Tokens
 pub mod Seated
+pub mod Raised
 pub mod Enrolled
+pub mod Devices
 pub mod Processes
 pub mod Runs
+pub mod Openings

@@ -15,32 +15,16 @@ use Rattle.oathd_database.specs.declared.fault.Fault.{Fault}
 use Rattle.oathd_database.specs.declared.serving.Serving.{Serving}
 use Rattle.oathd_roster.specs.Served.{HasServedNamed}
 use Rattle.oathd_roster.specs.declared.cluster.NamedCluster.{NamedCluster}
-use Rattle.book_law.specs.Lives.{Setting, Store, store_under}
-use Rattle.book_law.specs.Uses.{AreAllUses, AreUses, HasHistory, Serves, ServesInParts, StoreUse, Writes, first_store, store_after, written_store}
-use Rattle.served_law.specs.Enrolled.{enrolments}
+use Rattle.book_law.specs.Lives.{Setting, Store}
+use Rattle.book_law.specs.Uses.{AreAllUses, AreUses, HasHistory, ServesInParts, StoreUse, Writes, first_store, store_after, written_store}
+use Rattle.served_law.specs.Enrolled.{opening_uses}
 use Rattle.served_law.specs.Processes.{IsUse}
 use Rattle.served_law.specs.Runs.{AreAllNamedUses, AreNamedUses, AreOfRun, HasNamedHistory, HasUsesOf, IsOneUse, IsRunOver, IsSound, NamedRun, NamedUse, RunsBy, WritesBy, answers_of, store_found, store_left, terms_in, view_of}
 use Rattle.served_law.specs.Seated.{store_by_names}
 use Rattle.served_law.proofs.Enrolled.{enrolled_opened}
 use Rattle.served_law.proofs.Processes.{run_is_use, run_starts_clean}
 use Rattle.served_law.proofs.Seated.{seated_member, translator_of_opened}
-
--- ---- uses one after the other
-
-uses_append : (setting : Setting) (node : ℕ) (first rest : List StoreUse) (store : Store) → AreUses setting node store first → AreUses setting node (store_after setting first store) rest → AreUses setting node store (first ++ rest)
-uses_append setting node [] rest store are later = later
-uses_append setting node (Serves terms port taken entries left ∷ first) rest store are later =
-    (are.0, uses_append setting node first rest (store_under terms.seats left store) are.1 later)
-uses_append setting node (ServesInParts terms port parts left ∷ first) rest store are later =
-    (are.0, uses_append setting node first rest (store_under terms.seats left store) are.1 later)
-uses_append setting node (Writes action ∷ first) rest store are later =
-    (are.0, uses_append setting node first rest (written_store setting action store) are.1 later)
-
-after_append : (setting : Setting) (first rest : List StoreUse) (store : Store) → store_after setting (first ++ rest) store ≡ store_after setting rest (store_after setting first store)
-after_append setting [] rest store = refl
-after_append setting (Serves terms port taken entries left ∷ first) rest store = after_append setting first rest (store_under terms.seats left store)
-after_append setting (ServesInParts terms port parts left ∷ first) rest store = after_append setting first rest (store_under terms.seats left store)
-after_append setting (Writes action ∷ first) rest store = after_append setting first rest (written_store setting action store)
+use Rattle.served_law.proofs.Uses.{after_append, uses_append}
 
 -- ---- one run
 
@@ -78,14 +62,14 @@ module _ {S U : Type 0} (g : Ghosts S) (finds : sql.Held S → Type 0) (answers 
       let e = enrolled_opened g finds run.cluster run.serving.settings run.moment me served.import.book served.import.floors served.found served.counts names run.rows setting served.opened is.sound.known sized in
       let one = run_is_one_use g finds run.cluster run.moment run.serving (answers_of answers run.until) run.result run.text names run.rows setting run.left served is.sound is.leaves in
       let begun : store_by_names names e.former e.content ≡ store = is.holds e.content e.passes e.former e.was in
-      let enrolled : List StoreUse = enrolments me names e.new e.floors in
+      let enrolled : List StoreUse = opening_uses me names e.former e.puts e.new e.floors in
       let process : List StoreUse = ServesInParts terms bare one.was.parts run.left ∷ [] in
       let after : store_after setting enrolled store ≡ found = ap (store_after setting enrolled) (sym begun) ∙ e.after in
       let first : AreUses setting me store enrolled = subst (λ (s : Store). AreUses setting me s enrolled) begun e.uses in
       let rest : AreUses setting me (store_after setting enrolled store) process = subst (λ (s : Store). AreUses setting me s process) (sym after) (one.was.is, tt) in
       record {
         uses = enrolled ++ process;
-        are_of = record { new = e.new; floors = e.floors; parts = one.was.parts; recorded = one.was.recorded; are = refl };
+        are_of = record { former = e.former; puts = e.puts; new = e.new; floors = e.floors; found = after; parts = one.was.parts; recorded = one.was.recorded; are = refl };
         are_uses = subst (λ (n : ℕ). AreUses setting n store (enrolled ++ process)) is.of_node (uses_append setting me enrolled process store first rest);
         after = after_append setting enrolled process store ∙ ap (store_after setting process) after;
       }

@@ -46,7 +46,7 @@ use Rattle.served_law.proofs.Tokens.{AreOnce, IsKnownAt, name_of_token, token_pl
 pub row_name : (rows : List Entry) (i : ℕ) → slice_get (row_names rows) i ≡ name_at rows i
 row_name rows i = slice_get-map (λ (row : Entry). row.name) rows i
 
-once : (rows : List Entry) → AreApart rows → AreOnce (row_names rows)
+pub once : (rows : List Entry) → AreApart rows → AreOnce (row_names rows)
 once rows are i j name at_i at_j = are i j name (sym (row_name rows i) ∙ at_i) (sym (row_name rows j) ∙ at_j)
 
 known_at : (names : List (List ℕ)) (rows : List Entry) → AreKnown names rows → (i : ℕ) (name : List ℕ) → name_at rows i ≡ Some name → Contains names name
@@ -99,7 +99,7 @@ seats_known names rows known (seat ∷ seats) (e ∷ entries) named (suc i) name
 
 -- ---- the names of a book
 
-book_names : (salt : List ℕ) (book : List Credential) → row_names (entries_of salt book) ≡ names_of salt book
+pub book_names : (salt : List ℕ) (book : List Credential) → row_names (entries_of salt book) ≡ names_of salt book
 book_names salt [] = refl
 book_names salt (one ∷ book) = let rest = book_names salt book in λ i. name_of salt one ∷ rest i
 

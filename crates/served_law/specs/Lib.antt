@@ -4,3 +4,4 @@ pub mod Processes
 pub mod Runs
 pub mod Examples
 pub mod RunExamples
+pub mod Devices

@@ -8,6 +8,7 @@ use Rattle.floor_store.specs.Held.{Held}
 use Rattle.floor_store.specs.Range.{IsCount}
 use Rattle.floor_store.specs.Records.{PassRecord}
 use Rattle.floor_sql.specs.Held.{SqlHeld, sql_held}
+use Rattle.floor_sql.specs.declared.put.Put.{Put}
 use Rattle.roster_sql.specs.Roster.{BondRecord, HoldsNamed}
 use Rattle.roster_sql.specs.declared.entry.Entry.{Entry}
 use Rattle.seated_store.specs.Seated.{SeatedRecord, seated_held}
@@ -20,9 +21,9 @@ use Rattle.oathd_database.specs.declared.serving.Serving.{Serving}
 use Rattle.oathd_roster.specs.Served.{HasServedNamed}
 use Rattle.oathd_roster.specs.declared.cluster.NamedCluster.{NamedCluster}
 use Rattle.book_law.specs.Lives.{Action, Setting, Store, Terms, store_under}
-use Rattle.book_law.specs.Uses.{AreAllUses, AreUses, HasHistory, IsWriting, Part, ServesInParts, StoreUse, Writes, entries_in, first_store, written_store}
+use Rattle.book_law.specs.Uses.{AreAllUses, AreUses, HasHistory, IsWriting, Part, ServesInParts, StoreUse, Writes, entries_in, first_store, store_after, written_store}
 use Rattle.name_law.specs.Ports.{first_translator}
-use Rattle.served_law.specs.Enrolled.{enrolments}
+use Rattle.served_law.specs.Enrolled.{opening_uses}
 use Rattle.served_law.specs.Processes.{IsUse, StaysClean}
 use Rattle.served_law.specs.Seated.{HasKnownRows, served_terms, store_by_names}
 
@@ -117,15 +118,19 @@ module _ {S U : Type 0} (g : Ghosts S) (finds : sql.Held S → Type 0) (answers 
   AreNamedUses store (WritesBy action ∷ later) =
       IsWriting node action × AreNamedUses (written_store setting action store) later
 
-  -- The uses of a history are the run: the enrolments of its new rows, and its process in parts. The port of the
-  -- process recorded what the run received and offered.
+  -- The uses of a history are the run: raises of the rows `former`, enrolments of new rows, and its process in parts.
+  -- The process finds what the run found. Its port recorded what the run received and offered.
   pub record AreOfRun (store : Store) (run : NamedRun U) (is : IsRunOver store run) (uses : List StoreUse)
       : Type 0 where
+    pub former : List Entry
+    pub puts : List Put
     pub new : List Entry
     pub floors : List ℕ
+    pub found : store_after setting (opening_uses run.serving.place.me names former puts new floors) store
+        ≡ store_found is.served names run.rows
     pub parts : List Part
     pub recorded : entries_in parts ≡ entries_of is.served names
-    pub are : uses ≡ enrolments run.serving.place.me names new floors
+    pub are : uses ≡ opening_uses run.serving.place.me names former puts new floors
         ++ ServesInParts (terms_in is.served names) bare parts run.left ∷ []
 
   -- the uses of a history are the store's, one after the other

@@ -25,10 +25,12 @@ ghost use Rattle.oathd_roster.specs.Opened.{HasOpenedNamed};
 ghost use Rattle.oathd_roster.specs.Served.{HasServedNamed};
 ghost use Rattle.oathd_roster.specs.declared.cluster.NamedCluster.{NamedCluster};
 ghost use Rattle.book_law.specs.Lives.{Setting, Store, Terms};
-ghost use Rattle.book_law.specs.Uses.{IsSeatedMember, Part};
+ghost use Rattle.book_law.specs.Seeds.{AreGreatest, HaveSeedsOnce, UsesGreatest};
+ghost use Rattle.book_law.specs.Uses.{IsSeatedMember, Part, StoreUse};
 ghost use Rattle.name_law.specs.Ports.{ReadsEvent, first_translator};
+ghost use Rattle.served_law.specs.Devices.{HaveDevices, HaveOneSeed};
 ghost use Rattle.served_law.specs.Enrolled.{IsEnrolledFrom};
-ghost use Rattle.served_law.specs.Runs.{AreAllNamedUses, AreNamedUses, HasNamedHistory, HasUsesOf, IsOneUse, IsSound, NamedUse, terms_in, view_of};
+ghost use Rattle.served_law.specs.Runs.{AreAllNamedUses, AreNamedUses, AreOf, HasNamedHistory, HasUsesOf, IsOneUse, IsSound, NamedUse, terms_in, view_of};
 ghost use Rattle.served_law.specs.Seated.{HasKnownRows, HasRows, IsSeatedStore, served_terms, store_by_names, tokens_of};
 
 use book_law::uses_make_histories;
@@ -60,9 +62,11 @@ pub fn opened_names_are_seated<S: Alter + Drop, D: Database<S>>()
         → IsSeatedStore (sql_held S.Store) terms (store_by_names names rows store.inner.mirror) store }
 {}
 
-/// Enrolments: the rows that an opening by names adds are enrolments of the history.
+/// Openings: the rows that an opening by names raises are raises of the history, and the rows that it adds are
+/// enrolments.
 ///
-/// They come before the process. So the process finds what the use before it left, followed by these rows.
+/// The raises come first, and both come before the process. So the process finds what the use before it left, with
+/// higher floors in some rows, followed by the new rows.
 pub fn opened_names_are_enrolled<S: Alter + Drop, D: Database<S>>()
     ensures { (cluster : NamedCluster) (limits : Limits) (moment node : ℕ) (book : List Credential) (floors : List ℕ)
         (store : SeatedRecord (SqlHeld S)) (counts : RowCounts) (names : List (List ℕ)) (rows : List Entry)
@@ -136,11 +140,30 @@ pub fn served_names_are_processes<S: Alter + Drop, D: Database<S>, U: Stop>()
     named_ports_tell_envelopes();
 }
 
+/// Devices: each process of a run by names finds the greatest floors of the devices of its users file.
+///
+/// `uses_open_stores` and `devices_are_safe` ask this of the processes among the uses.
+pub fn served_names_open_greatest<S: Alter + Drop, D: Database<S>, U: Stop>()
+    ensures opened { (cluster : NamedCluster) (limits : Limits) (moment node : ℕ) (book : List Credential)
+        (floors : List ℕ) (store : SeatedRecord (SqlHeld S)) (counts : RowCounts) (names : List (List ℕ))
+        (rows : List Entry) (seed : ℕ → ℕ)
+        → HasOpenedNamed S.Store D.finds cluster limits moment node book floors store counts
+        → HasKnownRows S.Store cluster.bond names store.inner rows → HaveOneSeed seed names rows
+        → HaveSeedsOnce seed (tokens_of names (names_of cluster.salt book))
+        → AreGreatest seed (tokens_of names (names_of cluster.salt book))
+        (store_by_names names rows store.inner.mirror) }
+    ensures uses { (setting : Setting) (node : ℕ) (names : List (List ℕ)) (seed : ℕ → ℕ) (store : Store)
+        (named : List (NamedUse U)) (are : AreNamedUses S.Store D.finds U.answers setting node names store named)
+        → HaveDevices S.Store D.finds U.answers setting node names seed store named are → (uses : List StoreUse)
+        → AreOf S.Store D.finds U.answers setting node names store named are uses
+        → UsesGreatest seed setting store uses }
+{}
+
 /// Histories: all runs by names over the members' stores have one history of `book_law`, with any commands between
 /// them.
 ///
-/// Each run finds what the use before it left, and gives the store its new rows by enrolments. The promises of
-/// `books_are_safe` hold of the history if no vote is forged in it.
+/// Each run finds what the use before it left. It raises rows of the store, and gives it new rows by enrolments. The
+/// promises of `books_are_safe` hold of the history if no vote is forged in it.
 pub fn served_names_make_histories<S: Alter + Drop, D: Database<S>, U: Stop>()
     ensures uses { (setting : Setting) (node : ℕ) (names : List (List ℕ)) (store : Store) (named : List (NamedUse U))
         (are : AreNamedUses S.Store D.finds U.answers setting node names store named)

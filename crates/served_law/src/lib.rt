@@ -12,9 +12,10 @@ mod worked;
 pub use laws::{
     named_translators_are_first, opened_names_are_enrolled, opened_names_are_seated,
     opened_names_have_rows, served_names_are_processes, served_names_are_seated,
-    served_names_make_histories,
+    served_names_make_histories, served_names_open_greatest,
 };
 pub use run_laws::{
-    commands_can_be_broken, named_uses_can_be_broken, runs_can_be_broken, stretches_are_numbered,
+    commands_can_be_broken, devices_can_be_broken, named_uses_can_be_broken, runs_can_be_broken,
+    stretches_are_numbered,
 };
-pub use worked::{enrolments_are_worked, rows_are_worked, rows_can_be_broken};
+pub use worked::{enrolments_are_worked, openings_are_worked, rows_are_worked, rows_can_be_broken};

@@ -24,12 +24,15 @@ ghost use Rattle.oathd_database.specs.declared.serving.Serving.{Serving};
 ghost use Rattle.oathd_roster.specs.Served.{HasServedNamed};
 ghost use Rattle.oathd_roster.specs.declared.cluster.NamedCluster.{NamedCluster};
 ghost use Rattle.book_law.specs.Lives.{Enrols, Setting, Store, Terms};
+ghost use Rattle.book_law.specs.Seeds.{HaveSeedsOnce};
 ghost use Rattle.book_law.specs.Stretches.{Stretch as StretchOf, token_cleared, tokens_cleared};
-ghost use Rattle.book_law.specs.Uses.{AreAllUses, AreUses, HasHistory, StoreUse, WasProcessIn, entries_in, first_store, written_store};
+ghost use Rattle.book_law.specs.Uses.{AreAllUses, AreUses, HasHistory, StoreUse, WasProcessIn, entries_in, first_store, store_after, written_store};
+ghost use Rattle.served_law.specs.Devices.{HaveDevices, HaveOneSeed};
+ghost use Rattle.served_law.specs.Enrolled.{opening_uses};
 ghost use Rattle.served_law.specs.Examples.{no_rows, rows_of, three_names, three_tokens};
 ghost use Rattle.served_law.specs.Processes.{AreClean, IsUse, MayEndWith, RunsIn, StaysClean, number_unlocked, stretches_of, with_numbers};
 ghost use Rattle.served_law.specs.RunExamples.{stretch_from, two_commands, two_writes};
-ghost use Rattle.served_law.specs.Runs.{AreAllNamedUses, AreNamedUses, AreOf, AreOfRun, HasNamedHistory, HasUsesOf, HoldsStore, IsRunOver, IsSound, NamedRun, NamedUse, RunsBy, WritesBy, answers_of, entries_of, store_left, view_of};
+ghost use Rattle.served_law.specs.Runs.{AreAllNamedUses, AreNamedUses, AreOf, AreOfRun, HasNamedHistory, HasUsesOf, HoldsStore, IsRunOver, IsSound, NamedRun, NamedUse, RunsBy, WritesBy, answers_of, entries_of, store_found, store_left, terms_in, view_of};
 ghost use Rattle.served_law.specs.Seated.{HasKnownRows};
 
 use oathd_database::{Database, Stop};
@@ -172,6 +175,11 @@ pub fn named_uses_can_be_broken<S: Alter + Drop, D: Database<S>, U: Stop>()
         (is : IsRunOver S.Store D.finds U.answers setting node names store run) (uses : List StoreUse)
         (are : AreOfRun S.Store D.finds U.answers setting node names store run is uses)
         → entries_in are.parts ≡ entries_of is.served names }
+    ensures are_of_run_that_finds { (setting : Setting) (node : ℕ) (names : List (List ℕ)) (store : Store)
+        (run : NamedRun U) (is : IsRunOver S.Store D.finds U.answers setting node names store run)
+        (uses : List StoreUse) (are : AreOfRun S.Store D.finds U.answers setting node names store run is uses)
+        → store_after setting (opening_uses run.serving.place.me names are.former are.puts are.new are.floors) store
+        ≡ store_found is.served names run.rows }
     ensures are_of_no_process { (setting : Setting) (node : ℕ) (names : List (List ℕ)) (store : Store)
         (run : NamedRun U) (is : IsRunOver S.Store D.finds U.answers setting node names store run)
         → AreOfRun S.Store D.finds U.answers setting node names store run is [] → ⊥ }
@@ -196,4 +204,25 @@ pub fn named_uses_can_be_broken<S: Alter + Drop, D: Database<S>, U: Stop>()
     ensures history_is_there { (setting : Setting) (names : List (List ℕ)) (named : ℕ → List (NamedUse U))
         (are : AreAllNamedUses S.Store D.finds U.answers setting names named)
         (has : HasNamedHistory S.Store D.finds U.answers setting names named are) → HasHistory setting has.uses }
+{}
+
+/// Counterexamples: each condition of devices fails for a minimal one, or is among those of a run.
+pub fn devices_can_be_broken<S: Alter + Drop, D: Database<S>, U: Stop>()
+    ensures two_seeds { HaveOneSeed (λ token. 0) three_names (rows_of 0xbb 0xcc 0xaa) → ⊥ }
+    ensures one_seed { (setting : Setting) (node : ℕ) (names : List (List ℕ)) (seed : ℕ → ℕ) (store : Store)
+        (run : NamedRun U) (later : List (NamedUse U))
+        (are : AreNamedUses S.Store D.finds U.answers setting node names store (RunsBy run ∷ later))
+        → HaveDevices S.Store D.finds U.answers setting node names seed store (RunsBy run ∷ later) are
+        → HaveOneSeed seed names run.rows }
+    ensures once { (setting : Setting) (node : ℕ) (names : List (List ℕ)) (seed : ℕ → ℕ) (store : Store)
+        (run : NamedRun U) (later : List (NamedUse U))
+        (are : AreNamedUses S.Store D.finds U.answers setting node names store (RunsBy run ∷ later))
+        → HaveDevices S.Store D.finds U.answers setting node names seed store (RunsBy run ∷ later) are
+        → HaveSeedsOnce seed (terms_in are.0.served names).seats }
+    ensures later { (setting : Setting) (node : ℕ) (names : List (List ℕ)) (seed : ℕ → ℕ) (store : Store)
+        (run : NamedRun U) (later : List (NamedUse U))
+        (are : AreNamedUses S.Store D.finds U.answers setting node names store (RunsBy run ∷ later))
+        → HaveDevices S.Store D.finds U.answers setting node names seed store (RunsBy run ∷ later) are
+        → HaveDevices S.Store D.finds U.answers setting node names seed
+        (store_left S.Store D.finds U.answers setting node names store run are.0) later are.1 }
 {}

@@ -4,7 +4,7 @@ ghost use Rattle.std.specs.Prelude.{◌≡◌, ℕ, List, [], ◌∷◌, length}
 ghost use Rattle.sqlite.specs.Held.{Held as Conn, state};
 ghost use Rattle.sqlite.specs.State.{HasCleanDisk};
 ghost use Rattle.book_law.specs.Examples.{maple_alone, maple_first, silver_first};
-ghost use Rattle.book_law.specs.Lives.{Enrols, places_of};
+ghost use Rattle.book_law.specs.Lives.{Enrols, Raises, places_of};
 ghost use Rattle.book_law.specs.Uses.{Writes};
 ghost use Rattle.floor_store.specs.Content.{Content};
 ghost use Rattle.floor_store.specs.Records.{PassRecord};
@@ -13,8 +13,8 @@ ghost use Rattle.named_port.specs.Examples.{name_with};
 ghost use Rattle.roster_sql.specs.Roster.{BondRecord, HoldsNamed};
 ghost use Rattle.roster_sql.specs.Examples.{entry_of};
 ghost use Rattle.roster_sql.specs.declared.entry.Entry.{Entry};
-ghost use Rattle.served_law.specs.Enrolled.{IsEnrolledFrom, enrolments};
-ghost use Rattle.served_law.specs.Examples.{Seats, after_rows, floors, no_rows, rows_of, three_names, three_rows, three_tokens};
+ghost use Rattle.served_law.specs.Enrolled.{IsEnrolledFrom, enrolments, opening_uses, raises};
+ghost use Rattle.served_law.specs.Examples.{RaisesSecond, Seats, after_rows, floors, former_rows, no_rows, put_of, rows_of, three_names, three_rows, three_tokens};
 ghost use Rattle.served_law.specs.Seated.{AreKnown, HasKnownRows, HasRows, token_of, tokens_of};
 
 use sqlite::Alter;
@@ -38,6 +38,21 @@ pub fn enrolments_are_worked()
     ensures no_floors { enrolments 1 three_names (rows_of 0xbb 0xcc 0xaa) [] ≡ [] }
     ensures is_there { after_rows (entry_of 0xaa 3 ∷ []) (9 ∷ []) (three_rows 0xbb 0xcc 0xaa)
         ≡ three_rows 0xbb 0xcc 0xaa }
+{}
+
+/// Worked cases, and counterexamples: an opening that raises one row and enrols one.
+pub fn openings_are_worked()
+    ensures raised { raises 1 three_names former_rows (put_of 1 8 ∷ put_of 0 9 ∷ [])
+        ≡ Writes (Raises 1 2 8) ∷ Writes (Raises 1 1 9) ∷ [] }
+    ensures none_raised { raises 1 three_names former_rows [] ≡ [] }
+    ensures raised_first { opening_uses 1 three_names former_rows (put_of 1 8 ∷ []) (entry_of 0xaa 3 ∷ []) (7 ∷ [])
+        ≡ Writes (Raises 1 2 8) ∷ Writes (Enrols 1 0 7) ∷ [] }
+    ensures second_row { RaisesSecond (put_of 1 8 ∷ []) }
+    // A floor that isn't higher changes nothing.
+    ensures not_lowered { RaisesSecond (put_of 1 8 ∷ put_of 1 7 ∷ []) }
+    ensures another_row { RaisesSecond (put_of 0 8 ∷ []) → ⊥ }
+    ensures another_floor { RaisesSecond (put_of 1 9 ∷ []) → ⊥ }
+    ensures left_out { RaisesSecond [] → ⊥ }
 {}
 
 /// Counterexamples: each condition of rows and of a store of a history fails for a minimal one.

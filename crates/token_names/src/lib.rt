@@ -12,8 +12,6 @@ mod name;
 mod names;
 mod salt;
 mod seed;
-#[cfg(test)]
-mod tests;
 
 pub use fault::NamesFault;
 pub use identity::{MAX_IDENTITY_LEN, identity_of};

@@ -41,7 +41,7 @@ function watchCluster(told) {
     const source = new EventSource(told.dataset.from), body = document.querySelector("#table tbody");
     let said = told.textContent.replace(/ \(.*/, "");
     source.onmessage = (event) => {
-        const table = JSON.parse(event.data), says = table.said || "all members are well";
+        const table = JSON.parse(event.data), says = table.said;
         body.replaceChildren(...table.rows.map((row) => {
             const line = element("tr"), head = element("th", row[0]);
             head.scope = "row";
@@ -57,7 +57,7 @@ function watchCluster(told) {
     window.addEventListener("pagehide", () => source.close());
 }
 
-// Which members have the row of a user, until all of them have it.
+// Which members have what the users file says of a user, until all of them have it.
 function watchStates(part) {
     const settled = document.getElementById("settled");
     let left = 60;
@@ -71,10 +71,9 @@ function watchStates(part) {
     }
 
     function again() {
-        const rows = [...part.querySelectorAll("tbody tr")], having = rows.filter((row) => row.dataset.says === "yes");
-        const text = having.length + " of " + rows.length + " members have the row.";
+        const table = part.querySelector("table"), text = table.dataset.settled;
         if (settled.textContent !== text) settled.textContent = text;
-        if (having.length < rows.length && --left > 0) setTimeout(look, 3000);
+        if (table.querySelector("[data-done=no]") && --left > 0) setTimeout(look, 3000);
     }
 
     again();

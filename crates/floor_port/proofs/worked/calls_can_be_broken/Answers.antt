@@ -1,7 +1,11 @@
 -- A record that is short, another packer, and calls that the port doesn't make.
 use Rattle.std.proofs.Common.{◌≡◌, ℕ, List, [], ◌∷◌, refl, ap, arith}
 use Rattle.std.specs.Prelude.{Some, slice_index}
+use Rattle.hmac_core.specs.Unfolded.sha256_steps
 use Rattle.datagram_port.specs.Port.{Faulted, PortEvent}
+use Rattle.named_wire.specs.Datagram.{datagram_at, datagram_bytes}
+use Rattle.named_wire.specs.Head.{head_at}
+use Rattle.vote_wire.specs.Key.{tag_of}
 use Rattle.node_log.specs.declared.gatekeeper.Fell.{Fell}
 use Rattle.floor_port.specs.Examples.{from_1}
 use Rattle.floor_port.specs.Packer.{PackerRecord}
@@ -11,6 +15,7 @@ some_is : (x y : List PortEvent) → Some x ≡ Some y → x ≡ y
 some_is x y e = cc
 
 pub returns-clause-after : goal.returns-clause-after
+unfolding tag_of datagram_bytes datagram_at head_at sha256_steps.first_words sha256_steps.schedule sha256_steps.rounds sha256_steps.compress sha256_steps.hash_after sha256_steps.digest_bytes sha256_steps.sha256
 returns-clause-after c = record {
   is_made = refl;
   packer_is = refl;

@@ -25,8 +25,8 @@ returns-in-Some-clause-known g c =
     ap (λ (l : List ℕ). slice_get l 0) (sym c.deref.ensures.value) ∙ sym c.in-Some.ensures.value in
     first_within found.0.items c.args.names.now found.1.places.items token c.in-Ok.ensures.fresh.all_places at
 
-pub new-store-requires : goal.new-store-requires
-new-store-requires g c =
+pub seated_at-store-requires : goal.seated_at-store-requires
+seated_at-store-requires g c =
     let found = c.in-Ok.found in
     let seen = c.in-Ok.ensures in
     let names = c.args.names.now in
@@ -54,5 +54,5 @@ returns-in-Ok-open_counted-clause-looked g c =
     (no_places found.1.places.items none) in
     let opened : IsOpenedAs g.S.Store Named mid c.args.node (length found.0.items) store =
     subst (λ n. IsOpenedAs g.S.Store Named mid c.args.node n store) tokens c.in-Ok-open_counted.ensures.content in
-    subst (HasLooked g.S.Store c.args.conn c.args.node names c.args.own.now found.0.items) (sym c.new-store.ensures)
+    subst (HasLooked g.S.Store c.args.conn c.args.node names c.args.own.now found.0.items) (sym c.seated_at-store.ensures)
     (has_looked g.S.Store c.args.conn mid c.args.node names c.args.own.now found.0.items kept seen.looks.value store found.1.seats.items all opened counted)

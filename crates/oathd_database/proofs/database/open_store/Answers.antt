@@ -1,5 +1,5 @@
-use Rattle.std.proofs.Common.{IfSome}
-use Rattle.oathd_database.specs.Commands.{IsRefused}
+use Rattle.std.proofs.Common.{IfSome, length, subst, sym}
+use Rattle.oathd_database.specs.Commands.{HasOpened, IsRefused}
 use Rattle.oathd_database.specs.declared.fault.Fault.{Fault}
 use Rattle.oathd_database.specs.declared.fault.Fault.TheVariants.{Store}
 use Rattle.oathd_database.proofs.FaultLemmas.{err_is}
@@ -29,4 +29,5 @@ returns-in_err-store-clause-fault g c =
 
 pub returns-clause-opened : goal.returns-clause-opened
 returns-clause-opened g c =
-    opened_found g.S.Store _ g.D.Database.finds c.in_ok-conn.conn c.args.node c.in_ok-store.store c.in_ok-conn.ensures.found c.in_ok-store.ensures.opened
+    subst (HasOpened g.S.Store g.D.Database.finds c.args.node (length c.in_ok-users.users.book)) (sym c.watch.ensures)
+    (opened_found g.S.Store _ g.D.Database.finds c.in_ok-conn.conn c.args.node c.in_ok-store.store c.in_ok-conn.ensures.found c.in_ok-store.ensures.opened)

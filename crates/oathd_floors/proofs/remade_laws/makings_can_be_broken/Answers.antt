@@ -40,6 +40,6 @@ pub returns-clause-again_seated : goal.returns-clause-again_seated
 returns-clause-again_seated c h =
     let seats = h.seated.tables (clean_is (λ disk. no_tokens.trees) named_conn) in
     let grown = seats.grown in
-    let read = (none_read (state none_named named_conn).now.schema (with_new seats.roster [] [] grown.content) grown.passes (rows_after seats.roster []) small_bond grown.now).1 in
+    let read = (none_read (state none_named named_conn).now.schema (with_new seats.roster [] [] [] grown.content) grown.passes (rows_after seats.roster []) small_bond grown.now).1 in
     let boot : 4 ≡ 10 * 2 ^ 20 = ap (λ (content : Content). content.boot) grown.seen ∙ read in
     omega (arith, boot)

@@ -1,7 +1,7 @@
 use Rattle.std.proofs.Common.{rules, arith}
 use Rattle.sqlite.specs.Held.{state}
 use Rattle.sqlite.specs.State.{HasCleanDisk}
-use Rattle.roster_sql.specs.Enrolled.{Appends, Enrols}
+use Rattle.roster_sql.specs.Enrolled.{Enrols, Grows}
 use Rattle.roster_sql.proofs.CommitLemmas.{commits_after, survives_after}
 use Rattle.roster_sql.proofs.EnrolLemmas.{enrolled}
 use Rattle.roster_sql.proofs.enrolling.enrol.Goals as goal
@@ -24,6 +24,8 @@ returns-in_err-write_tokens g c =
     let read = c.in_ok-check_tables.ensures in
     let node = c.args.node in
     let tokens = c.args.tokens in
+    let count = c.args.count in
+    let puts = c.args.puts.now in
     let floors = c.args.floors.now in
     let entries = c.args.entries.now in
     record {
@@ -32,8 +34,8 @@ returns-in_err-write_tokens g c =
       err = search rules;
       failure = search rules;
       unusable = search rules;
-      crash = survives_after (Appends tokens floors entries) (Enrols node tokens floors entries) old mid new (λ clean. (read.only.read clean).now)
-          (λ clean db. enrolled node tokens floors entries old.now db (read.value clean)) read.only.crash c.write_tokens.ensures.crash;
+      crash = survives_after (Grows tokens count puts floors entries) (Enrols node tokens count puts floors entries) old mid new (λ clean. (read.only.read clean).now)
+          (λ clean db. enrolled node tokens count puts floors entries old.now db (read.value clean)) read.only.crash c.write_tokens.ensures.crash;
     }
 
 pub returns : goal.returns
@@ -44,17 +46,19 @@ returns g c =
     let read = c.in_ok-check_tables.ensures in
     let node = c.args.node in
     let tokens = c.args.tokens in
+    let count = c.args.count in
+    let puts = c.args.puts.now in
     let floors = c.args.floors.now in
     let entries = c.args.entries.now in
     record {
       idle = search rules;
       ok = λ clean.
           let early : HasCleanDisk mid = omega (arith, c.write_tokens.ensures.crash.clean) in
-          commits_after (Appends tokens floors entries) (Enrols node tokens floors entries) old mid new (read.only.read early).now
-          (λ db. enrolled node tokens floors entries old.now db (read.value early)) (c.in_ok-write_tokens.ensures.ok clean);
+          commits_after (Grows tokens count puts floors entries) (Enrols node tokens count puts floors entries) old mid new (read.only.read early).now
+          (λ db. enrolled node tokens count puts floors entries old.now db (read.value early)) (c.in_ok-write_tokens.ensures.ok clean);
       err = search rules;
       failure = search rules;
       unusable = search rules;
-      crash = survives_after (Appends tokens floors entries) (Enrols node tokens floors entries) old mid new (λ clean. (read.only.read clean).now)
-          (λ clean db. enrolled node tokens floors entries old.now db (read.value clean)) read.only.crash c.write_tokens.ensures.crash;
+      crash = survives_after (Grows tokens count puts floors entries) (Enrols node tokens count puts floors entries) old mid new (λ clean. (read.only.read clean).now)
+          (λ clean db. enrolled node tokens count puts floors entries old.now db (read.value clean)) read.only.crash c.write_tokens.ensures.crash;
     }

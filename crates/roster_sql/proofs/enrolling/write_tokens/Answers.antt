@@ -3,22 +3,22 @@ use Rattle.sqlite.specs.Held.{state}
 use Rattle.sqlite.specs.State.{HasCleanDisk, Survives}
 use Rattle.floor_sql.specs.Stored.{Commits, MayCommit}
 use Rattle.floor_sql.proofs.CommitLemmas.{commits, may_commit}
-use Rattle.roster_sql.specs.Enrolled.{Appends}
+use Rattle.roster_sql.specs.Enrolled.{Grows}
 use Rattle.roster_sql.proofs.enrolling.write_tokens.Goals as goal
 
 pub returns-in-Ok-commit : goal.returns-in-Ok-commit
 returns-in-Ok-commit g c =
     let old = c.args.conn.now in
-    let mid = c.append_tokens.new.tx.conn.now in
+    let mid = c.grow_tokens.new.tx.conn.now in
     let end = c.commit.new.self.0 in
-    let IsChange = Appends c.args.tokens c.args.floors.now c.args.entries.now in
+    let IsChange = Grows c.args.tokens c.args.count c.args.puts.now c.args.floors.now c.args.entries.now in
     let s0 = state g.S.Store old in
     let begun = c.transaction-tx.ensures.begun in
     let ran = λ (early : HasCleanDisk (state g.S.Store mid)).
     let made : IsChange (state g.S.Store (record old { in_transaction = true })).now (state g.S.Store mid).now =
     rw begun at (c.in-Ok.ensures.made early) in made in
     let inside : Survives (state g.S.Store (record old { in_transaction = true })) (state g.S.Store mid) (λ _. ⊥) =
-    rw begun at c.append_tokens.ensures.steps.crash in
+    rw begun at c.grow_tokens.ensures.steps.crash in
     let same : end ≡ c.conn-2-1.given.0 = search rules in
     record {
       idle = search rules;
@@ -36,16 +36,16 @@ returns-in-Ok-commit g c =
 pub returns-in-Err-commit : goal.returns-in-Err-commit
 returns-in-Err-commit g c =
     let old = c.args.conn.now in
-    let mid = c.append_tokens.new.tx.conn.now in
+    let mid = c.grow_tokens.new.tx.conn.now in
     let end = c.commit.new.self.0 in
-    let IsChange = Appends c.args.tokens c.args.floors.now c.args.entries.now in
+    let IsChange = Grows c.args.tokens c.args.count c.args.puts.now c.args.floors.now c.args.entries.now in
     let s0 = state g.S.Store old in
     let begun = c.transaction-tx.ensures.begun in
     let ran = λ (early : HasCleanDisk (state g.S.Store mid)).
     let made : IsChange (state g.S.Store (record old { in_transaction = true })).now (state g.S.Store mid).now =
     rw begun at (c.in-Ok.ensures.made early) in made in
     let inside : Survives (state g.S.Store (record old { in_transaction = true })) (state g.S.Store mid) (λ _. ⊥) =
-    rw begun at c.append_tokens.ensures.steps.crash in
+    rw begun at c.grow_tokens.ensures.steps.crash in
     let same : end ≡ c.conn-2-1.given.0 = search rules in
     record {
       idle = search rules;

@@ -48,6 +48,9 @@ returns-clause-later_run g c = λ setting node names store later run are. are.1
 pub returns-clause-are_of_run : goal.returns-clause-are_of_run
 returns-clause-are_of_run g c = λ setting node names store run is uses are. are.recorded
 
+pub returns-clause-are_of_run_that_finds : goal.returns-clause-are_of_run_that_finds
+returns-clause-are_of_run_that_finds g c = λ setting node names store run is uses are. are.found
+
 not_empty : (first rest : List StoreUse) (one : StoreUse) → [] ≡ first ++ one ∷ rest → ⊥
 not_empty [] rest one e = absurd cc
 not_empty (other ∷ first) rest one e = absurd cc

@@ -30,6 +30,6 @@ returns-clause-enrolled_elsewhere g c = λ node own conn store rows none h. none
 pub returns-clause-enrolled_in_another_boot : goal.returns-clause-enrolled_in_another_boot
 returns-clause-enrolled_in_another_boot g c = λ node own conn store rows first later h.
     let boot : h.content.boot ≡ store.mirror.boot =
-    sym (boot_kept three_tokens node three_names h.new h.floors (store_by_names three_names h.former h.content)) ∙ ap (λ (s : Store). s.content.boot) h.after in
+    sym (boot_kept three_tokens node three_names h.former h.puts h.new h.floors (store_by_names three_names h.former h.content)) ∙ ap (λ (s : Store). s.content.boot) h.after in
     let old : h.content.boot ≡ 4 = first h.content h.passes h.former h.was in
     omega (arith, boot, old, later)

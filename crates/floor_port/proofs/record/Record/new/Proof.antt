@@ -21,7 +21,7 @@ abbrev empty : Val
 empty = vstruct (vcons (vstruct vnil) vnil)
 
 abbrev r : Record
-r = record { marker = record {}; start = record { gone_back = []; floors = [] }; calls = [] }
+r = record { marker = record {}; start = record { gone_back = []; known = []; floors = [] }; calls = [] }
 
 pub new_spec : {M : Type 1} → statement M
 new_spec 𝓤 𝓛 𝓜 𝓡 wired =

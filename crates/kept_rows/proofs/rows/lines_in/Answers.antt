@@ -1,0 +1,10 @@
+use Rattle.std.proofs.Common.{refl, ap, ◌∙◌}
+use Rattle.std.specs.Prelude.{◌==◌}
+use Rattle.std.proofs.lemmas.Iterator.Consumers.{map_from_collect}
+use Rattle.std.proofs.lemmas.Iterator.Splits.{YieldsList-from_slice_split}
+use Rattle.kept_rows.proofs.rows.lines_in.Goals as goal
+
+pub returns : goal.returns
+returns c =
+    map_from_collect _ c.collect.ensures.ran (YieldsList-from_slice_split _ (λ b. b == 10) c.args.text.now
+    c.split.ensures.rest c.split.ensures.done c.split.ensures.closure (λ x r q k. (refl, k.called.met ∙ ap (λ b. b == 10) k.shows)))

@@ -1,0 +1,3 @@
+pub mod Seed
+pub mod Repeat
+pub mod Examples
