@@ -91,6 +91,13 @@ class Counters(Case):
         self.assertEqual(self.counters(log, self.put("log.2", line + start(2, 1))), [8, 0])
         self.refused("NoStart", self.put("log.1", line + accepted("ann", 7)), self.put("log.2", start(2, 1)))
 
+    def test_rows_without_room_before_the_first_start(self):
+        lines = "enrol refused Full\nenrol left line=3 user=cid\nenrol left line=4 user=d??n x=\n"
+        log = self.put("log.1", lines + start(1, 1) + accepted("ann", 7) + lines + start(1, 2))
+        self.assertEqual(self.counters(log, self.put("log.2", lines + start(2, 1))), [8, 0])
+        self.refused("NoStart", self.put("log.1", lines + accepted("ann", 7)), self.put("log.2", start(2, 1)))
+        self.refused("UnknownLine", self.put("log.1", start(1, 1) + "enrol refused Fully\n"), self.put("log.2", start(2, 1)))
+
     def test_the_greatest_of_all_says(self):
         logs = self.logs(accepted("ann", 9) + accepted("ann", 8), start(2, 1) + accepted("ann", 11) + start(2, 2))
         self.assertEqual(self.counters(*logs), [12, 0])

@@ -12,7 +12,7 @@ _oathd() {
         --members)
             [[ ${words[1]} != floors ]] || COMPREPLY=($(compgen -W '1 2 3 4 5 6 7 8 9' -- "$cur"))
             return ;;
-        --node) COMPREPLY=($(compgen -W '1 2 3 4 5 6 7 8 9' -- "$cur")); return ;;
+        --node | --members-were) COMPREPLY=($(compgen -W '1 2 3 4 5 6 7 8 9' -- "$cur")); return ;;
         --look-ahead | --skew | --range | --drift | --moment | --turns | --lost | --since | --log-to) return ;;
     esac
     command=${words[1]}
@@ -23,7 +23,8 @@ _oathd() {
         serve)
             options='--node --cluster --members --key --look-ahead --skew --range --drift --clients --plain-lines'
             options+=' --turns --forever --log --log-to --reload' files=yes ;;
-        export | audit | migrate | gates | unlock | roster) options='--node --cluster' files=yes ;;
+        export | audit | gates | unlock | roster) options='--node --cluster' files=yes ;;
+        migrate) options='--node --cluster --members-were' files=yes ;;
         floors) options='--node --members --cluster' files=yes ;;
         level) options='--node --floors --cluster' files=yes ;;
         status) options='--cluster --operator --node' ;;

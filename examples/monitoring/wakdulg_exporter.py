@@ -46,6 +46,8 @@ METRICS = [(name, *rest.split(" ", 1)) for name, rest in [
     ("clock_seconds", "gauge The node's clock, in seconds since 1970."),
     ("started_seconds", "gauge The node's clock at its start, in seconds since 1970."),
     ("tokens", "gauge Tokens of the node."),
+    ("store_rows", "gauge Rows of the node's store, also of retired tokens."),
+    ("store_rows_limit", "gauge Rows that the node's store has room for."),
     ("pending", "gauge Lines that wait for votes at the node."),
     ("gates_closed", "gauge Tokens that are closed now at the node, after failures."),
     ("received_total", "counter Datagrams that the node took in."),
@@ -77,6 +79,8 @@ def samples_of(lines):
             info[word] = rest[0]
         elif word == "node":
             samples.append(("members", {}, int(rest[2])))
+        elif word == "rows":
+            samples += [("store_rows", {}, int(rest[0])), ("store_rows_limit", {}, int(rest[2]))]
         elif word in NUMBERS:
             samples.append((NUMBERS[word], {}, int(rest[0])))
         elif word == "refused":

@@ -18,8 +18,6 @@ mod laws;
 mod left;
 mod port;
 mod record;
-#[cfg(test)]
-mod tests;
 mod waiting;
 mod worked;
 

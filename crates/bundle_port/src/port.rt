@@ -18,7 +18,7 @@ use datagram_port::{Port, Received, Sender};
 /// record of the calls. What it handed in and what the port below was offered follow from the record.
 #[derive(Drop)]
 pub struct BundlePort<P: Port + Drop> {
-    /// The port below. Tests read what it was offered.
+    /// The port below.
     pub(crate) port: P,
     bundler: Bundler,
     calls: Record,

@@ -3,8 +3,8 @@
 //! A [`FloorPort`] is a node's port over another one. On both sides the datagrams of members are of version 3, under
 //! the cluster's key. At each quiet turn the port tells the other members floors that its node bears witness to. It
 //! unpacks what members tell: of a datagram with news it hands in each floor that is news as one datagram. All other
-//! datagrams pass unchanged, also those that tell no news, those whose tag is wrong, and those of an older boot than one
-//! that the port heard the member in. The port by names above drops the last.
+//! datagrams pass unchanged, also those that tell no news, those whose tag is wrong, and those of an older boot than
+//! one that the port heard the member in. The port by names above drops the last.
 //!
 //! A floor that the node raised by a witness since the last quiet turn is fresh. The port tells it at a later quiet
 //! turn. The datagrams of the vote may still be on their way, and a member that knows the floor before the vote denies

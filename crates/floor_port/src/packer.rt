@@ -238,8 +238,8 @@ impl<'k> Packer<'k> {
         Some((head, body))
     }
 
-    /// Notes the boot of a datagram that `member` sent to the node. It looks at the tag only if the boot is greater than
-    /// those that it noted of the member.
+    /// Notes the boot of a datagram that `member` sent to the node. It looks at the tag only if the boot is greater
+    /// than those that it noted of the member.
     fn note_boot(&mut self, member: u8, bytes: &[u8])
         requires { is_fallen self.old.claims member ≡ false }
         ensures { self.new ≡ spec.hearing self.old member bytes.now }

@@ -224,8 +224,8 @@ impl<'k> Rows<'k> {
         raise_all(self.known.as_mut_slice(), self.names, floors, rows)
     }
 
-    /// Returns the floors that are told next, and goes on to the rows after them. They are those of the next 20 rows that
-    /// aren't fresh.
+    /// Returns the floors that are told next, and goes on to the rows after them. They are those of the next 20 rows
+    /// that aren't fresh.
     pub(crate) fn take_turn(&mut self) -> ArrayVec<NamedFloor, MAX_FLOORS>
         ensures floors { result.items ≡ spec.next_floors self.old }
         ensures rows { self.new ≡ spec.after_turn self.old }

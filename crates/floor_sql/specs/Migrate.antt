@@ -9,7 +9,7 @@ use Rattle.sqlite.specs.Effect.{Database}
 use Rattle.floor_store.specs.Records.{RowRecord, PassRecord}
 use Rattle.floor_store.specs.Content.{Content}
 use Rattle.floor_sql.specs.Schema as tables
-use Rattle.floor_sql.specs.Schema.{undrifted_schema, floor_schema}
+use Rattle.floor_sql.specs.Schema.{most_rows, undrifted_schema, floor_schema}
 use Rattle.floor_sql.specs.Stored.{Holds, HoldsDrift, HoldsFloors, HoldsPasses, HoldsVersion, HasVersion, Commits, MayCommit, OthersStay, rows_of, self_row}
 use Rattle.floor_sql.specs.Usable.{IsNode, HasUsableVersion, HasUsableFloor, HasUsablePasses}
 use Rattle.floor_sql.specs.declared.schema.Format.TheVariants.{Numbered}
@@ -48,7 +48,7 @@ pub record IsUsableUndrifted (db : Database) (node tokens : ℕ) : Type 0 where
   pub of_node : IsNode node
   pub self : HasUsableVersion db.trees 1 node tokens
   pub floors : (token : ℕ) → token < tokens → HasUsableFloor db.trees token
-  pub passes : HasUsablePasses db.trees
+  pub passes : HasUsablePasses db.trees (most_rows 1)
 
 -- ---- the change
 

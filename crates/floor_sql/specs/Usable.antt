@@ -10,7 +10,7 @@ use Rattle.otp_core.specs.Gate.{IsGate}
 use Rattle.floor_store.specs.Records.{ProposalRecord, RowRecord, PassRecord, SpanRecord, span_of}
 use Rattle.floor_store.specs.Range.{IsCount, IsProposal, IsSpan, IsPass}
 use Rattle.floor_sql.specs.Schema as tables
-use Rattle.floor_sql.specs.Schema.{floor_schema, schema_of, version_of}
+use Rattle.floor_sql.specs.Schema.{floor_schema, most_rows, schema_of, version_of}
 use Rattle.floor_sql.specs.declared.schema.Format.{Format}
 use Rattle.floor_sql.specs.declared.schema.Format.TheVariants.{Numbered}
 use Rattle.floor_sql.specs.Stored.{HoldsPasses, node_in, rows_of, self_columns, version_in, version_values, floor_columns, floor_values, drift_columns, drift_values}
@@ -22,10 +22,10 @@ pub record IsNode (node : ℕ) : Type 0 where
   pub first : 1 ≤ node
   pub last : node ≤ 9
 
--- the node, the number of tokens and the boot of a store
-pub record IsOwn (own : ℕ × ℕ × ℕ) : Type 0 where
+-- the node, the number of tokens and the boot of a store of the given version
+pub record IsOwn (version : ℕ) (own : ℕ × ℕ × ℕ) : Type 0 where
   pub node : IsNode own.0
-  pub tokens : own.1 ≤ 10000
+  pub tokens : own.1 ≤ most_rows version
   pub boot : IsCount own.2
 
 -- a span of factors in range
@@ -45,14 +45,15 @@ pub record IsRow (row : RowRecord) : Type 0 where
   pub grant : ForSome row.grant IsGrant
   pub gate : IsGate row.gate.fails row.gate.until
 
--- the values of a row of `pass`
-pub record IsAudit (pass : PassRecord) : Type 0 where
+-- the values of a row of `pass`, in a store of at most `most` tokens
+pub record IsAudit (most : ℕ) (pass : PassRecord) : Type 0 where
   pub whole : IsPass pass
+  pub token : pass.token < most
   pub span : IsSpanOfFactors (span_of pass.lo pass.hi)
 
 -- the values of all rows of `pass`
-abbrev pub AreAudit : List PassRecord → Type 0
-AreAudit passes = (i : ℕ) (pass : PassRecord) → slice_get passes i ≡ Some pass → IsAudit pass
+abbrev pub AreAudit : ℕ → List PassRecord → Type 0
+AreAudit most passes = (i : ℕ) (pass : PassRecord) → slice_get passes i ≡ Some pass → IsAudit most pass
 
 -- ---- tables
 
@@ -84,7 +85,7 @@ pub record HasUsableSelf (trees : Trees) (version : ℕ) : Type 0 where
   pub node : ℕ
   pub of_node : IsNode node
   pub tokens : ℕ
-  pub of_tokens : tokens ≤ 10000
+  pub of_tokens : tokens ≤ most_rows version
   pub self : HasUsableVersion trees version node tokens
 
 -- the token has one row in `floor`, with values in range
@@ -104,10 +105,10 @@ pub record HasUsableRow (trees : Trees) (token : ℕ) : Type 0 where
   pub floor : HasUsableFloor trees token
   pub drift : HasUsableDrift trees token
 
--- the passes have the numbers 1, 2, 3 and so on, and values in range
-pub record HasUsablePasses (trees : Trees) : Type 0 where
+-- the passes have the numbers 1, 2, 3 and so on, and values in range; the store has at most `most` tokens
+pub record HasUsablePasses (trees : Trees) (most : ℕ) : Type 0 where
   pub passes : List PassRecord
-  pub ranges : AreAudit passes
+  pub ranges : AreAudit most passes
   pub room : length passes ≤ 2 ^ 62
   pub holds : HoldsPasses trees passes
 
@@ -115,9 +116,10 @@ pub record HasUsablePasses (trees : Trees) : Type 0 where
 pub record IsUsableAs (format : Format) (db : Database) (node tokens : ℕ) : Type 0 where
   pub schema : db.schema ≡ schema_of format
   pub of_node : IsNode node
+  pub few : tokens ≤ most_rows (version_of format)
   pub self : HasUsableVersion db.trees (version_of format) node tokens
   pub rows : (token : ℕ) → token < tokens → HasUsableRow db.trees token
-  pub passes : HasUsablePasses db.trees
+  pub passes : HasUsablePasses db.trees (most_rows (version_of format))
 
 -- a store of version 2, of `node` with `tokens` tokens
 abbrev pub IsUsable : Database → ℕ → ℕ → Type 0

@@ -15,7 +15,7 @@ ghost use Rattle.floor_sql.specs.Broken.{IsOne, IsSecond, db_at, db_of, old_db_a
 ghost use Rattle.floor_sql.specs.Created.{AreMade, IsForeign, Opens, first_schema, no_schema};
 ghost use Rattle.floor_sql.specs.Held.{HasAudit, HasCommitted, HasSame, HasTables, HasTablesAs, Leaves, Mirrors, MirrorsLast, SqlHeld, failures_of};
 ghost use Rattle.floor_sql.specs.Migrate.{HoldsUndrifted, IsMigrated, IsUsableUndrifted, Migrates};
-ghost use Rattle.floor_sql.specs.Schema.{floor_schema, schema_of, undrifted_schema};
+ghost use Rattle.floor_sql.specs.Schema.{floor_schema, most_rows, schema_of, undrifted_schema};
 ghost use Rattle.floor_sql.specs.declared.schema.Format.TheVariants.{Named, Numbered};
 ghost use Rattle.floor_sql.specs.Shown.{IsLeft, IsRead, ShowsNode};
 ghost use Rattle.floor_sql.specs.Staged.{CanPut, HasRows, MakesAll, MakesPuts, passes_in, with_boot, with_puts};
@@ -140,10 +140,13 @@ pub fn connections_can_be_broken()
     ensures nodes { IsNode 1 × IsNode 9 }
     ensures node_0 { IsNode 0 → ⊥ }
     ensures node_10 { IsNode 10 → ⊥ }
-    ensures own { IsOwn (1, 10000, 4611686018427387903) }
-    ensures own_node { IsOwn (0, 0, 0) → ⊥ }
-    ensures own_tokens { IsOwn (1, 10001, 0) → ⊥ }
-    ensures own_boot { IsOwn (1, 0, 4611686018427387904) → ⊥ }
+    ensures limits { most_rows 1 ∷ most_rows 2 ∷ most_rows 3 ∷ [] ≡ 10000 ∷ 10000 ∷ 65536 ∷ [] }
+    ensures own { IsOwn 2 (1, 10000, 4611686018427387903) }
+    ensures own_named { IsOwn 3 (1, 65536, 0) }
+    ensures own_node { IsOwn 2 (0, 0, 0) → ⊥ }
+    ensures own_tokens { IsOwn 2 (1, 10001, 0) → ⊥ }
+    ensures own_named_tokens { IsOwn 3 (1, 65537, 0) → ⊥ }
+    ensures own_boot { IsOwn 2 (1, 0, 4611686018427387904) → ⊥ }
     ensures span { IsSpanOfFactors (span_of 4611686018427387902 4611686018427387903) }
     ensures span_hi { IsSpanOfFactors (span_of 4611686018427387903 4611686018427387904) → ⊥ }
     ensures span_spanned { IsSpanOfFactors (span_of 5 7) → ⊥ }
@@ -154,9 +157,11 @@ pub fn connections_can_be_broken()
     ensures row_next { IsRow (free_row 4611686018427387905) → ⊥ }
     ensures row_grant { IsRow (record (free_row 9) { grant = Some (proposal 0 0 0, span_of 5 5) }) → ⊥ }
     ensures row_gate { IsRow (record (free_row 9) { gate = record { fails = 10001; until = 0 } }) → ⊥ }
-    ensures audit { IsAudit old_pass }
-    ensures audit_whole { IsAudit (record old_pass { token = 10000 }) → ⊥ }
-    ensures audit_span { IsAudit (record old_pass { lo = 5; hi = 7 }) → ⊥ }
+    ensures audit { IsAudit 10000 (record old_pass { token = 9999 }) }
+    ensures audit_named { IsAudit 65536 (record old_pass { token = 65535 }) }
+    ensures audit_whole { IsAudit 65537 (record old_pass { token = 65536 }) → ⊥ }
+    ensures audit_token { IsAudit 10000 (record old_pass { token = 10000 }) → ⊥ }
+    ensures audit_span { IsAudit 10000 (record old_pass { lo = 5; hi = 7 }) → ⊥ }
 {}
 
 /// Counterexamples: each promise of a call on a connection, over any store of bytes, fails for a minimal one.
@@ -304,8 +309,10 @@ pub fn tables_can_be_broken()
     ensures version_of_node_2 { (boot : ℕ) → HasUsableVersion (tables_at boot []) 2 2 0 → ⊥ }
     ensures version_of_a_token { (boot : ℕ) → HasUsableVersion (tables_at boot []) 2 1 1 → ⊥ }
     ensures own_row { HasUsableSelf (trees_of (self_row 9 10000 4 ∷ []) [] [] []) 2 }
+    ensures own_row_named { HasUsableSelf (trees_of (version_row 3 9 65536 4 ∷ []) [] [] []) 3 }
     ensures own_row_of_node { (boot : ℕ) → HasUsableSelf (trees_of (self_row 10 0 boot ∷ []) [] [] []) 2 → ⊥ }
     ensures own_row_of_tokens { (boot : ℕ) → HasUsableSelf (trees_of (self_row 1 10001 boot ∷ []) [] [] []) 2 → ⊥ }
+    ensures own_row_of_many { (boot : ℕ) → HasUsableSelf (trees_of (version_row 3 1 65537 boot ∷ []) [] [] []) 3 → ⊥ }
     ensures own_row_version { (boot : ℕ) → HasUsableSelf (tables_at boot []) 1 → ⊥ }
 
     // The rows of a token.
@@ -321,28 +328,40 @@ pub fn tables_can_be_broken()
     ensures token_drift { HasUsableRow (trees_of [] (floor_row 0 (free_row 9) ∷ []) [] []) 0 → ⊥ }
 
     // The passes.
-    ensures passes { HasUsablePasses (tables_at 4 (pass_row 1 old_pass ∷ [])) }
+    ensures passes { HasUsablePasses (tables_at 4 (pass_row 1 (record old_pass { token = 9999 }) ∷ [])) 10000 }
     ensures passes_range { (boot : ℕ)
-        → HasUsablePasses (tables_at boot (pass_row 1 (record old_pass { token = 10000 }) ∷ [])) → ⊥ }
-    ensures passes_room { (rows : List Row) → length rows ≡ 4611686018427387905 → HasUsablePasses (tables_at 4 rows)
-        → ⊥ }
-    ensures passes_numbers { (boot : ℕ) → HasUsablePasses (tables_at boot (pass_row 2 old_pass ∷ [])) → ⊥ }
+        → HasUsablePasses (tables_at boot (pass_row 1 (record old_pass { token = 10000 }) ∷ [])) 10000 → ⊥ }
+    ensures passes_room { (rows : List Row) → length rows ≡ 4611686018427387905
+        → HasUsablePasses (tables_at 4 rows) 10000 → ⊥ }
+    ensures passes_numbers { (boot : ℕ) → HasUsablePasses (tables_at boot (pass_row 2 old_pass ∷ [])) 10000 → ⊥ }
 
     // A whole store, of version 2 and of version 1.
     ensures usable { IsUsable token_db 1 1 }
     ensures usable_schema { IsUsable (record (db_at 4 []) { schema = undrifted_schema }) 1 0 → ⊥ }
     ensures usable_of_node { IsUsable (db_of (self_row 10 0 4 ∷ []) [] [] []) 10 0 → ⊥ }
+    ensures usable_few { (floors drifts : List Row)
+        → IsUsable (db_of (self_row 1 10001 4 ∷ []) floors [] drifts) 1 10001 → ⊥ }
     ensures usable_self { (boot : ℕ) → IsUsable (db_at boot []) 2 0 → ⊥ }
     ensures usable_rows { (boot : ℕ) → IsUsable (db_of (self_row 1 1 boot ∷ []) [] [] []) 1 1 → ⊥ }
     ensures usable_named { IsUsableAs Named named_db 1 0 }
+    ensures usable_named_pass { IsUsableAs Named (record named_db {
+      trees = trees_of (version_row 3 1 0 4 ∷ []) [] (pass_row 1 (record old_pass { token = 65535 }) ∷ []) [];
+    }) 1 0 }
+    ensures usable_named_few { (floors drifts : List Row) → IsUsableAs Named (record named_db {
+      trees = trees_of (version_row 3 1 65537 4 ∷ []) floors [] drifts;
+    }) 1 65537 → ⊥ }
     ensures usable_version { (boot : ℕ) → IsUsableAs Named (record (db_at boot []) { schema = schema_of Named }) 1 0
         → ⊥ }
+    ensures usable_pass_of_many { (boot : ℕ)
+        → IsUsable (db_at boot (pass_row 1 (record old_pass { token = 10000 }) ∷ [])) 1 0 → ⊥ }
     ensures usable_passes { (boot : ℕ) → IsUsable (db_at boot (pass_row 2 old_pass ∷ [])) 1 0 → ⊥ }
     ensures old_usable { IsUsableUndrifted old_token_db 1 1 }
     ensures old_usable_schema { IsUsableUndrifted (record (old_db_at 4 []) { schema = floor_schema }) 1 0 → ⊥ }
     ensures old_usable_of_node { IsUsableUndrifted (old_db_of (version_row 1 10 0 4 ∷ []) [] []) 10 0 → ⊥ }
     ensures old_usable_self { (boot : ℕ) → IsUsableUndrifted (old_db_at boot []) 2 0 → ⊥ }
     ensures old_usable_floors { (boot : ℕ) → IsUsableUndrifted (old_db_of (version_row 1 1 1 boot ∷ []) [] []) 1 1 → ⊥ }
+    ensures old_usable_pass_of_many { (boot : ℕ)
+        → IsUsableUndrifted (old_db_at boot (pass_row 1 (record old_pass { token = 10000 }) ∷ [])) 1 0 → ⊥ }
     ensures old_usable_passes { (boot : ℕ) → IsUsableUndrifted (old_db_at boot (pass_row 2 old_pass ∷ [])) 1 0 → ⊥ }
 {}
 

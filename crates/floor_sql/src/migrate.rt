@@ -13,7 +13,7 @@ ghost use Rattle.floor_sql.specs.Migrate.{HasUndrifted, IsUndrifted, IsUsableUnd
 
 use crate::create::{create_drift, insert_drifts};
 use crate::read::{Refusal, count_passes, read_floor, read_self};
-use crate::schema::is_undrifted_schema;
+use crate::schema::{is_undrifted_schema, most_rows};
 use crate::statement::change_one;
 use crate::texts::UPDATE_VERSION;
 use floor_store::StoreFault;
@@ -46,7 +46,7 @@ fn check_tables<S: Alter>(conn: &mut Connection<S>, node: u8, tokens: u32) -> Re
         return Err(Refusal(StoreFault::Unusable));
     }
     check_floors(conn, tokens)?;
-    let _passes = count_passes(conn)?;
+    let _passes = count_passes(conn, most_rows(1))?;
     Ok(())
 }
 

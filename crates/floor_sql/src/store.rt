@@ -188,7 +188,7 @@ impl<S: Alter> SqlStore<S> {
         tokens: u32,
     ) -> Result<Self, (Connection<S>, StoreFault)>
         requires idle { conn.in_transaction ≡ false }
-        requires tokens { tokens ≤ 10000 }
+        requires tokens { tokens ≤ 65536 }
         ensures content { IfOk result (IsOpenedAs S.Store format conn node tokens) }
         ensures unusable { IfErr result (λ e. e.1 ≡ StoreFault.Unusable → HasCleanDisk (state S.Store e.0)
             → ¬ IsUsableAs format (state S.Store conn).now node tokens) }
@@ -334,7 +334,7 @@ impl<S: Alter> SqlStore<S> {
     /// # Errors
     ///
     /// - Returns the fault that broke the store earlier.
-    /// - Returns `Unusable` if the table `pass` is not as `open` accepts it. This breaks the store.
+    /// - Returns `Unusable` if the table `pass` is not as `open_as` accepts it for `Named`. This breaks the store.
     /// - Returns `Memory` or `Disk` if the allocator or the database fails. This breaks the store.
     pub fn passes(&mut self, alloc: Global) -> Result<Vec<Pass>, StoreFault>
         ensures list { HasCleanDisk (state S.Store self.new.conn)
@@ -342,7 +342,7 @@ impl<S: Alter> SqlStore<S> {
         ensures reads { ReadsAudit S.Store self.old self.new result }
         ensures breaks { IfErr result (Breaks (sql_held S.Store) self.old self.new) }
         ensures unusable { HasCleanDisk (state S.Store self.new.conn) → result ≡ Err StoreFault.Unusable
-            → self.old.fault ≡ None → ¬ HasUsablePasses (state S.Store self.old.conn).now.trees }
+            → self.old.fault ≡ None → ¬ HasUsablePasses (state S.Store self.old.conn).now.trees 65536 }
     {
         if let Some(fault) = self.fault {
             return Err(fault);

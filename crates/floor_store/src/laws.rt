@@ -39,8 +39,8 @@ pub fn contents_are_worked()
 pub fn ranges_are_worked()
     ensures boots { IsContent (content_at 4611686018427387903 []) }
     ensures boot_too_many { IsContent (content_at 4611686018427387904 []) → ⊥ }
-    ensures tokens { (rows : List RowRecord) → length rows ≡ 10000 → IsContent (content_at 0 rows) }
-    ensures token_too_many { (rows : List RowRecord) → length rows ≡ 10001 → IsContent (content_at 0 rows) → ⊥ }
+    ensures tokens { (rows : List RowRecord) → length rows ≡ 65536 → IsContent (content_at 0 rows) }
+    ensures token_too_many { (rows : List RowRecord) → length rows ≡ 65537 → IsContent (content_at 0 rows) → ⊥ }
     ensures first_proposal { IsProposal (proposal 1 0 0) }
     ensures last_proposal { IsProposal (proposal 9 4611686018427387903 4611686018427387903) }
     ensures node_0 { IsProposal (proposal 0 0 0) → ⊥ }
@@ -53,8 +53,8 @@ pub fn ranges_are_worked()
     ensures three_factors { IsSpan 5 7 → ⊥ }
     ensures backwards { IsSpan 6 5 → ⊥ }
     ensures first_pass { IsPass (pass 0 5 6 0 0) }
-    ensures last_pass { IsPass (pass 9999 5 5 4611686018427387903 4611686018427387903) }
-    ensures pass_token { IsPass (pass 10000 5 5 0 0) → ⊥ }
+    ensures last_pass { IsPass (pass 65535 5 5 4611686018427387903 4611686018427387903) }
+    ensures pass_token { IsPass (pass 65536 5 5 0 0) → ⊥ }
     ensures pass_boot { IsPass (pass 0 5 5 4611686018427387904 0) → ⊥ }
     ensures pass_seq { IsPass (pass 0 5 5 0 4611686018427387904) → ⊥ }
     ensures memory { is_failure Memory ≡ true }

@@ -35,7 +35,7 @@ rows_short before (row ∷ rows) are =
     let rest = rows_short (before ++ row ∷ []) rows are.3 in
     omega (arith, length-append (row_text row) (flat_map row_text rows), first, rest)
 
-head_short : (line : HeadLine) → Ranges line → length (head_text line.head line.tokens) ≤ 53
+head_short : (line : HeadLine) → Ranges 10000 line → length (head_text line.head line.tokens) ≤ 53
 unfolding head_text
 head_short line is =
     let ten : 10000 < 10 ^ 5 = lit< tt in
@@ -51,7 +51,7 @@ head_short line is =
 pub floors_short : (floors : FloorsRecord) → AreFloors floors → length (floors_text floors) ≤ 850053
 floors_short floors are =
     let line : HeadLine = record { head = floors.head; tokens = length floors.rows } in
-    let is = ranges_of line are.head in
+    let is = ranges_of 10000 line are.head in
     let first = head_short line is in
     let rows = rows_short [] floors.rows are.rows in
     let few = is.tokens in

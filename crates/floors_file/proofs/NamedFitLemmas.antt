@@ -18,18 +18,18 @@ use Rattle.floors_file.proofs.NamedRoundLemmas.{FitsHeard, fits_heard}
 use Rattle.floors_file.proofs.NamedSpellingLemmas.{length_mac_line, named_ranges_of, plain_line}
 use Rattle.floors_file.proofs.RoundLemmas.{Ranges}
 
-head_short : (line : NamedLineRecord) → is_names_word line.head.names ≡ true → is_word line.head.life ≡ true → Ranges (plain_line line)
+head_short : (line : NamedLineRecord) → is_names_word line.head.names ≡ true → is_word line.head.life ≡ true → Ranges 65536 (plain_line line)
     → length (named_head_text line.head line.rows) ≤ 183
 unfolding named_head_text
 head_short line word of_life is =
-    let ten : 10000 < 10 ^ 5 = lit< tt in
+    let five : 65536 < 10 ^ 5 = lit< tt in
     let late : 2 ^ 40 < 10 ^ 13 = lit< tt in
     let wide : 2 ^ 62 < 10 ^ 19 = lit< tt in
     let node = few_digits 1 line.head.node (omega arith) (omega arith) (omega (arith, is.node)) (omega (arith, is.node)) in
     let members = few_digits 1 line.head.members (omega arith) (omega arith) (omega (arith, is.members)) (omega (arith, is.members)) in
     let boot = few_digits 19 line.head.boot (omega arith) (omega arith) (omega (arith, is.boot, wide)) (omega (arith, is.boot)) in
     let moment = few_digits 13 line.head.moment (omega arith) (omega arith) (omega (arith, is.moment, late)) (omega (arith, is.moment)) in
-    let rows = few_digits 5 line.rows (omega arith) (omega arith) (omega (arith, is.tokens, ten)) (omega (arith, is.tokens)) in
+    let rows = few_digits 5 line.rows (omega arith) (omega arith) (omega (arith, is.tokens, five)) (omega (arith, is.tokens)) in
     let names = word_short line.head.names (and_parts (nat_le 12 (length line.head.names)) (is_word line.head.names) word).1 in
     let life = word_short line.head.life of_life in
     simp length-append (omega (arith, node, members, boot, moment, rows, names, life))
@@ -89,7 +89,7 @@ heard_few head before (one ∷ heard) low nine many high is are =
     ltb-true one.member k (and_parts (nat_lt one.member k) true both.1).0) are.2 in
     omega (arith, rest, length-append before (one ∷ []))
 
-pub named_floors_short : (key : List ℕ) (floors : NamedFloorsRecord) → AreNamedFloors floors → length (named_floors_text key floors) ≤ 860504
+pub named_floors_short : (key : List ℕ) (floors : NamedFloorsRecord) → AreNamedFloors floors → length (named_floors_text key floors) ≤ 5636600
 named_floors_short key floors are =
     let line : NamedLineRecord = record { head = floors.head; rows = length floors.rows } in
     let is = named_ranges_of line are.head in

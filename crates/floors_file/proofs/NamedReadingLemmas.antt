@@ -180,12 +180,12 @@ named_unended text fault is e =
 
 -- ---- the number of rows
 
-few_if : (line other : HeadLine) (test : Bool) → is_head line ≡ test → Ok other ≡ cond test (Ok line) (Err Range) → other.tokens ≤ 10000
-few_if line other false is e = absurd cc
-few_if line other true is e = let few = (ranges_of line is).tokens in let same : other.tokens ≡ line.tokens = cc in omega (arith, few, same)
+few_if : (most : ℕ) (line other : HeadLine) (test : Bool) → is_head most line ≡ test → Ok other ≡ cond test (Ok line) (Err Range) → other.tokens ≤ most
+few_if most line other false is e = absurd cc
+few_if most line other true is e = let few = (ranges_of most line is).tokens in let same : other.tokens ≡ line.tokens = cc in omega (arith, few, same)
 
-pub tokens_few : (line other : HeadLine) → Ok other ≡ ranged line → other.tokens ≤ 10000
-tokens_few line other e = few_if line other (is_head line) refl e
+pub tokens_few : (most : ℕ) (line other : HeadLine) → Ok other ≡ ranged most line → other.tokens ≤ most
+tokens_few most line other e = few_if most line other (is_head most line) refl e
 
 -- the fault of the boots, passed on
 pub bad_heard : {A : Type 0} (text : List ℕ) (result : Result A FloorsFault) (fault : FloorsFault) → IsErrAnd result (λ x. x ≡ fault)

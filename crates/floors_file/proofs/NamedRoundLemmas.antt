@@ -25,7 +25,7 @@ use Rattle.floors_file.proofs.RoundLemmas.{IsVisible, Ranges, decimal_visible, f
 names_visible : (word : List ℕ) → is_names_word word ≡ true → IsVisible word
 names_visible word h = word_visible word (and_parts (nat_le 12 (length word)) (is_word word) h).1
 
-head_visible : (line : NamedLineRecord) → is_names_word line.head.names ≡ true → is_word line.head.life ≡ true → Ranges (plain_line line)
+head_visible : (line : NamedLineRecord) → is_names_word line.head.names ≡ true → is_word line.head.life ≡ true → Ranges 65536 (plain_line line)
     → AllByRecursion IsVisible (codes "floors" ∷ named_fields line.head line.rows)
 head_visible line word life is = (
   refl,
@@ -51,7 +51,7 @@ head_visible line word life is = (
 )
 
 head_numbers_back : (line : NamedLineRecord) → is_names_word line.head.names ≡ true → is_named_head line ≡ true
-    → is_word line.head.life ≡ true → Ranges (plain_line line)
+    → is_word line.head.life ≡ true → Ranges 65536 (plain_line line)
     → named_head_of (codes "floors" ∷ named_fields line.head line.rows) ≡ Ok line
 head_numbers_back line word ranged life is =
     rw (

@@ -167,8 +167,8 @@ pub record IsHeadSpelled (fields : List (List ℕ)) (line : NamedLineRecord) : T
 abbrev pub plain_line : NamedLineRecord → HeadLine
 plain_line line = record { head = plain_head line.head; tokens = line.rows }
 
-pub named_ranges_of : (line : NamedLineRecord) → is_named_head line ≡ true → Ranges (plain_line line)
-named_ranges_of line h = ranges_of (plain_line line) h
+pub named_ranges_of : (line : NamedLineRecord) → is_named_head line ≡ true → Ranges 65536 (plain_line line)
+named_ranges_of line h = ranges_of 65536 (plain_line line) h
 
 ranged_is : (line other : NamedLineRecord) → named_ranged line ≡ Ok other → (is_names_word line.head.names ≡ true) × (is_named_head line ≡ true) × (line ≡ other)
 ranged_is line other e =
@@ -259,7 +259,7 @@ head_spelled fields line e =
           ∙ ap (λ l. l ∷ version.x.1) ((bytes_eq-Decides version.x.0 (codes "2")).0 two.0) ∙ numbers.spelling);
     }
 
-pub rows_few : (fields : List (List ℕ)) (line : NamedLineRecord) → named_head_of fields ≡ Ok line → line.rows ≤ 10000
+pub rows_few : (fields : List (List ℕ)) (line : NamedLineRecord) → named_head_of fields ≡ Ok line → line.rows ≤ 65536
 rows_few fields line e = (named_ranges_of line (head_spelled fields line e).ranged).tokens
 
 -- ---- names and seeds

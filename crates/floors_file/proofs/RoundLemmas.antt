@@ -164,18 +164,18 @@ le_from_test a b h = grind arith
 pub lt_from_test : (a b : ℕ) → nat_lt a b ≡ true → a < b
 lt_from_test a b h = grind arith
 
--- the ranges of a first line
-pub record Ranges (line : HeadLine) : Type 0 where
+-- the ranges of a first line with at most `most` rows
+pub record Ranges (most : ℕ) (line : HeadLine) : Type 0 where
   pub node : line.head.node ≤ 9
   pub members : line.head.members ≤ 9
   pub boot : line.head.boot < 2 ^ 62
   pub moment : line.head.moment < 2 ^ 40
-  pub tokens : line.tokens ≤ 10000
+  pub tokens : line.tokens ≤ most
 
-pub ranges_of : (line : HeadLine) → is_head line ≡ true → Ranges line
-ranges_of line h =
+pub ranges_of : (most : ℕ) (line : HeadLine) → is_head most line ≡ true → Ranges most line
+ranges_of most line h =
     let one = and_parts (nat_le 1 line.head.node && nat_le line.head.node line.head.members && nat_le line.head.members 9
-    && nat_lt line.head.boot (2 ^ 62) && nat_lt line.head.moment (2 ^ 40)) (nat_le line.tokens 10000) h in
+    && nat_lt line.head.boot (2 ^ 62) && nat_lt line.head.moment (2 ^ 40)) (nat_le line.tokens most) h in
     let two = and_parts (nat_le 1 line.head.node && nat_le line.head.node line.head.members && nat_le line.head.members 9
     && nat_lt line.head.boot (2 ^ 62)) (nat_lt line.head.moment (2 ^ 40)) one.0 in
     let three = and_parts (nat_le 1 line.head.node && nat_le line.head.node line.head.members && nat_le line.head.members 9)
@@ -189,12 +189,12 @@ ranges_of line h =
       members = members;
       boot = lt_from_test line.head.boot (2 ^ 62) three.1;
       moment = lt_from_test line.head.moment (2 ^ 40) two.1;
-      tokens = le_from_test line.tokens 10000 one.1;
+      tokens = le_from_test line.tokens most one.1;
     }
 
-in_range : (line : HeadLine) → is_head line ≡ true → InRange line
+in_range : (line : HeadLine) → is_head 10000 line ≡ true → InRange line
 in_range line h =
-    let is = ranges_of line h in
+    let is = ranges_of 10000 line h in
     record {
       node = omega (arith, is.node);
       members = omega (arith, is.members);
@@ -218,7 +218,7 @@ head_visible line fits = (
   ),
 )
 
-numbers_back : (line : HeadLine) → is_head line ≡ true → InRange line
+numbers_back : (line : HeadLine) → is_head 10000 line ≡ true → InRange line
     → head_numbers (decimal line.head.node ∷ decimal line.head.members ∷ decimal line.head.boot ∷ decimal line.head.moment ∷ decimal line.tokens ∷ [])
     ≡ Ok line
 numbers_back line is fits =
@@ -231,7 +231,7 @@ numbers_back line is fits =
       is,
     ) refl
 
-head_back : (line : HeadLine) → is_head line ≡ true → head_of (fields_of (join_with_byte 32 (codes "floors" ∷ head_fields line.head line.tokens))) ≡ Ok line
+head_back : (line : HeadLine) → is_head 10000 line ≡ true → head_of (fields_of (join_with_byte 32 (codes "floors" ∷ head_fields line.head line.tokens))) ≡ Ok line
 head_back line is =
     let fits = in_range line is in
     ap head_of (fields_joined (codes "floors") (head_fields line.head line.tokens) (head_visible line fits)) ∙ numbers_back line is fits

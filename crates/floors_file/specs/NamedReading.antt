@@ -34,9 +34,9 @@ named_line_value (Err fault) = Err fault
 abbrev pub is_names_word : List ℕ → Bool
 is_names_word word = nat_le 12 (length word) && is_word word
 
--- whether the numbers of a first line are in their ranges
+-- whether the numbers of a first line are in their ranges, with at most 65,536 rows
 abbrev pub is_named_head : NamedLineRecord → Bool
-is_named_head line = is_head (record { head = plain_head line.head; tokens = line.rows })
+is_named_head line = is_head 65536 (record { head = plain_head line.head; tokens = line.rows })
 
 -- a first line with a names word and a life, whose numbers are in their ranges
 abbrev pub named_ranged : NamedLineRecord → Result NamedLineRecord LineFault

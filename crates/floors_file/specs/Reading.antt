@@ -12,15 +12,15 @@ use Rattle.floors_file.specs.declared.reading.HeadLine.{HeadLine}
 use Rattle.floors_file.specs.Fields.{◌>>=◌, fields_of, last_number, next_field, number_field}
 use Rattle.floors_file.specs.Floors.{FloorRecord, FloorsRecord, floor_value}
 
--- whether the numbers of a first line are in their ranges
-abbrev pub is_head : HeadLine → Bool
-is_head line =
+-- whether the numbers of a first line are in their ranges, with at most `most` rows
+abbrev pub is_head : ℕ → HeadLine → Bool
+is_head most line =
     nat_le 1 line.head.node && nat_le line.head.node line.head.members && nat_le line.head.members 9
-    && nat_lt line.head.boot (2 ^ 62) && nat_lt line.head.moment (2 ^ 40) && nat_le line.tokens 10000
+    && nat_lt line.head.boot (2 ^ 62) && nat_lt line.head.moment (2 ^ 40) && nat_le line.tokens most
 
--- a first line whose numbers are in their ranges
-abbrev pub ranged : HeadLine → Result HeadLine LineFault
-ranged line = if is_head line then Ok line else Err Range
+-- a first line whose numbers are in their ranges, with at most `most` rows
+abbrev pub ranged : ℕ → HeadLine → Result HeadLine LineFault
+ranged most line = if is_head most line then Ok line else Err Range
 
 -- the numbers of a first line
 abbrev pub head_numbers : List (List ℕ) → Result HeadLine LineFault
@@ -30,7 +30,7 @@ head_numbers fields = do
   boot ← number_field members.1
   moment ← number_field boot.1
   tokens ← last_number moment.1
-  ranged (record {
+  ranged 10000 (record {
     head = record { node = node.0; members = members.0; boot = boot.0; moment = moment.0 };
     tokens = tokens;
   })

@@ -35,5 +35,5 @@ AreRows before (row ∷ rows) =
 
 -- the ranges of a floors file: numbers in their ranges, at most 10,000 rows, distinct users
 pub record AreFloors (floors : FloorsRecord) : Type 0 where
-  pub head : is_head (record { head = floors.head; tokens = length floors.rows }) ≡ true
+  pub head : is_head 10000 (record { head = floors.head; tokens = length floors.rows }) ≡ true
   pub rows : AreRows [] floors.rows

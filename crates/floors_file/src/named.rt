@@ -1,11 +1,14 @@
 use otp_core::Next;
 use token_names::{NAME_LEN, Name};
 
+/// The maximum number of rows of a floors file by names. A store by names has no more.
+pub(crate) const MAX_NAMED_ROWS: u64 = 65_536;
+
 /// The maximum length of a floors file by names, in bytes (`named_floors_fit`).
 ///
-/// The first line has 183, of which the names word and the life have 64 each. Each of 10,000 rows has 86, each of 9
+/// The first line has 183, of which the names word and the life have 64 each. Each of 65,536 rows has 86, each of 9
 /// boots 28, and the line of the MAC 69.
-pub const MAX_NAMED_FLOORS_LEN: u32 = 860_504;
+pub const MAX_NAMED_FLOORS_LEN: u32 = 5_636_600;
 
 /// The node whose floors were read, the time, and its cluster. Floor: the first free factor of a token at a node.
 #[derive(Clone, Copy, Debug)]
@@ -49,7 +52,7 @@ pub struct HeardBoot {
 pub struct NamedFloors<'a> {
     /// The node, the time of reading, and the cluster.
     pub head: NamedHead<'a>,
-    /// A row for each row of the store, at most 10,000, with distinct names.
+    /// A row for each row of the store, at most 65,536, with distinct names.
     pub rows: Vec<NamedFloor>,
     /// The boots that the node heard, by ascending members.
     pub heard: Vec<HeardBoot>,

@@ -25,7 +25,7 @@ pub fn named_floors_one_spelling()
         named_floors_text key floors ≡ text }
 {}
 
-/// Length: a text of floors by names has at most 860,504 bytes.
+/// Length: a text of floors by names has at most 5,636,600 bytes.
 pub fn named_floors_fit()
     ensures { (key : List ℕ) (floors : NamedFloorsRecord) → AreNamedFloors floors →
         length (named_floors_text key floors) ≤ MAX_NAMED_FLOORS_LEN }
@@ -73,8 +73,10 @@ pub fn named_files_are_worked()
     ensures names_word { map named_said_by_first (codes "floors 2 1 3 7 5 0 only-eleven 1"
         ∷ (codes "floors 2 0 3 7 5 0 " ++ word_of 65 ++ codes " 1") ∷ []) ≡ replicate 2 (Err (1, LineFault.NamesWord)) }
     ensures range { map named_said_by_first (codes "floors 2 4 3 7 5 0 names-of-site-1 11a"
-        ∷ codes "floors 2 1 3 7 5 10001 names-of-site-1 11a" ∷ codes "floors 2 4 3 7 5 0 names-of-site-1 " ∷ [])
+        ∷ codes "floors 2 1 3 7 5 65537 names-of-site-1 11a" ∷ codes "floors 2 4 3 7 5 0 names-of-site-1 " ∷ [])
         ≡ replicate 3 (Err (1, LineFault.Range)) }
+    ensures most_rows { named_said_by_first (codes "floors 2 1 3 7 5 65536 names-of-site-1 11a")
+        ≡ Err (2, LineFault.TooFew) }
     ensures life { map named_said_by_first (codes "floors 2 1 3 7 5 0 names-of-site-1 "
         ∷ codes "floors 2 1 3 7 5 0 names-of-site-1 11\ta" ∷ (codes "floors 2 1 3 7 5 0 names-of-site-1 " ++ word_of 65)
         ∷ []) ≡ replicate 3 (Err (1, LineFault.Life)) }

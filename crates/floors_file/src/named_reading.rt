@@ -9,7 +9,7 @@ ghost use Rattle.floors_file.specs.Reading.{is_memory};
 use crate::fault::{FloorsFault, LineFault};
 use crate::fields::{last_field, last_number, next_field, number_field};
 use crate::floors::Head;
-use crate::named::{HeardBoot, NamedFloor, NamedFloors, NamedHead};
+use crate::named::{HeardBoot, MAX_NAMED_ROWS, NamedFloor, NamedFloors, NamedHead};
 use crate::named_rows::NamedRows;
 use crate::reading::{at_first, is_same, ranged};
 use crate::sealed::body_of;
@@ -79,12 +79,12 @@ fn named_ranged<'a>(
       };
       rows = rows;
     }) }
-    ensures few { IfOk result (λ line. line.rows ≤ 10000) }
+    ensures few { IfOk result (λ line. line.rows ≤ 65536) }
 {
     if !is_names_word(names) {
         return Err(LineFault::NamesWord);
     }
-    let line = ranged(node, members, boot, moment, rows)?;
+    let line = ranged(MAX_NAMED_ROWS, node, members, boot, moment, rows)?;
     if !is_word(life) {
         return Err(LineFault::Life);
     }
@@ -97,7 +97,7 @@ fn named_ranged<'a>(
 /// Returns the first line after its version.
 fn named_numbers(rest: Option<&[u8]>) -> Result<NamedLine<'_>, LineFault>
     ensures line { named_line_value result ≡ named_numbers (fields_left rest.entry) }
-    ensures few { IfOk result (λ line. line.rows ≤ 10000) }
+    ensures few { IfOk result (λ line. line.rows ≤ 65536) }
 {
     let (node, rest) = number_field(rest)?;
     let (members, rest) = number_field(rest)?;
@@ -112,7 +112,7 @@ fn named_numbers(rest: Option<&[u8]>) -> Result<NamedLine<'_>, LineFault>
 /// Returns the first line.
 fn read_named_head(line: &[u8]) -> Result<NamedLine<'_>, LineFault>
     ensures line { named_line_value result ≡ named_head_of (fields_of line.now) }
-    ensures few { IfOk result (λ line. line.rows ≤ 10000) }
+    ensures few { IfOk result (λ line. line.rows ≤ 65536) }
 {
     let (word, rest) = next_field(Some(line))?;
     if !is_same(word, b"floors") {
@@ -195,7 +195,7 @@ fn read_named_rows(
     count: u64,
     text: &[u8],
 ) -> Result<(NamedRows, &[u8]), FloorsFault>
-    requires { count ≤ 10000 }
+    requires { count ≤ 65536 }
     ensures rows { IfOk result (λ read. named_rows_from 2 count [] (lines_of text.now)
         ≡ Ok (read.0, lines_of read.1.now)) }
     ensures fault { IfErr result (λ fault. is_memory fault.kind ≡ false →
@@ -287,7 +287,7 @@ fn read_heard(
     first: u64,
     text: &[u8],
 ) -> Result<Vec<HeardBoot>, FloorsFault>
-    requires { first ≤ 10002 }
+    requires { first ≤ 65538 }
     ensures heard { IfOk result (λ heard. heard_from first (named_head_value head.entry) [] (lines_of text.now)
         ≡ Ok heard.items) }
     ensures fault { IfErr result (λ fault. is_memory fault.kind ≡ false →

@@ -20,15 +20,16 @@ pub(crate) struct HeadLine {
     pub(crate) tokens: u64,
 }
 
-/// Returns a first line of the given numbers.
+/// Returns a first line of the given numbers, with at most `most` rows.
 pub(crate) fn ranged(
+    most: u64,
     node: u64,
     members: u64,
     boot: u64,
     moment: u64,
     tokens: u64,
 ) -> Result<HeadLine, LineFault>
-    ensures { result ≡ ranged (record {
+    ensures { result ≡ ranged most (record {
       head = record { node = node; members = members; boot = boot; moment = moment };
       tokens = tokens;
     }) }
@@ -38,7 +39,7 @@ pub(crate) fn ranged(
         && members <= MAX_MEMBERS as u64
         && boot < COUNTS_END
         && moment < MOMENTS_END
-        && tokens <= MAX_TOKENS as u64;
+        && tokens <= most;
     if !is_head {
         return Err(LineFault::Range);
     }
@@ -60,7 +61,7 @@ fn head_numbers(rest: Option<&[u8]>) -> Result<HeadLine, LineFault>
     let (boot, rest) = number_field(rest)?;
     let (moment, rest) = number_field(rest)?;
     let tokens = last_number(rest)?;
-    ranged(node, members, boot, moment, tokens)
+    ranged(MAX_TOKENS as u64, node, members, boot, moment, tokens)
 }
 
 /// Returns whether two texts are equal.

@@ -1,8 +1,8 @@
--- The rows of a users file that its former text lacks, as the log names them.
-use Rattle.std.specs.Prelude.{ℕ, ◌+◌, ◌==◌, ◌&&◌, nat_le, Bool, false, List, [], ◌∷◌, ◌++◌, map, take, codes, if◌then◌else◌}
+-- The rows of a users file that are left out, as the log names them.
+use Rattle.std.specs.Prelude.{ℕ, ◌+◌, ◌==◌, ◌&&◌, nat_le, Bool, false, List, [], ◌∷◌, ◌++◌, drop, map, take, codes, if◌then◌else◌}
 use Rattle.std.specs.Fmt.{decimal}
+use Rattle.std.specs.Str.{bytes_eq}
 use Rattle.token_file.specs.Fields.{fields_of, lines_of}
-use Rattle.kept_rows.specs.Kept.{is_among}
 
 -- whether a field begins a comment
 abbrev pub is_comment : List ℕ → Bool
@@ -24,7 +24,7 @@ first_of (field ∷ fields) = field
 
 -- the beginning of a report, with the number of a line
 unfoldable pub head : ℕ → List ℕ
-head number = codes "reload left line=" ++ decimal number ++ codes " user="
+head number = codes "enrol left line=" ++ decimal number ++ codes " user="
 
 -- the report of the row of a user, by the number of its line
 unfoldable pub report : ℕ → List ℕ → List ℕ
@@ -35,15 +35,22 @@ abbrev pub report_of : ℕ → List (List ℕ) → List ℕ
 report_of number [] = []
 report_of number (field ∷ fields) = if is_comment field then [] else report number (first_of fields)
 
--- the report of a line: none if it is one of the former lines
-abbrev pub left_line : List (List ℕ) → ℕ → List ℕ → List ℕ
-left_line former number line = if is_among former line then [] else report_of number (fields_of line)
+-- whether the next of the kept lines is `line`
+abbrev pub is_next : List (List ℕ) → List ℕ → Bool
+is_next [] line = false
+is_next (next ∷ kept) line = bytes_eq next line
 
--- the reports of lines from a number on
+-- the reports of lines from a number on, which have the kept lines in their order; those have none
 abbrev pub left_from : List (List ℕ) → ℕ → List (List ℕ) → List ℕ
-left_from former number [] = []
-left_from former number (line ∷ lines) = left_line former number line ++ left_from former (number + 1) lines
+left_from kept number [] = []
+left_from kept number (line ∷ lines) =
+    if is_next kept line then left_from (drop 1 kept) (number + 1) lines
+    else report_of number (fields_of line) ++ left_from kept (number + 1) lines
 
--- the reports of the rows of a text that its former text lacks
+-- what is told first
+abbrev pub first_line : List ℕ
+first_line = codes "enrol refused Full\n"
+
+-- the reports of the rows of a text that are not among its kept rows
 abbrev pub left_text : List ℕ → List ℕ → List ℕ
-left_text text former = left_from (lines_of former) 1 (lines_of text)
+left_text text kept = first_line ++ left_from (lines_of kept) 1 (lines_of text)

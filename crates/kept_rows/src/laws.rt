@@ -1,44 +1,39 @@
-ghost use Rattle.std.specs.Prelude.{◌≡◌, ℕ, ◌+◌, ◌≤◌, ◌&&◌, ◌++◌, ◌∷◌, [], List, codes, filter, length, map, replicate, true, false};
-ghost use Rattle.token_file.specs.Fields.{has_bytes, lines_of};
-ghost use Rattle.kept_rows.specs.Kept.{has_row, is_kept, kept_rows};
-ghost use Rattle.kept_rows.specs.Left.{left_text, printed, shown};
+ghost use Rattle.std.specs.Prelude.{◌≡◌, ℕ, ◌+◌, ◌≤◌, ◌==◌, ◌++◌, ◌∷◌, [], Bool, List, codes, filter, length, map, replicate, true, false};
+ghost use Rattle.token_file.specs.Fields.{lines_of};
+ghost use Rattle.kept_rows.specs.Kept.{kept_rows};
+ghost use Rattle.kept_rows.specs.Left.{is_next, left_from, left_text, printed, shown};
 
-/// Kept rows: each line of both texts that has bytes is kept, and nothing else is, in the order of the text.
-pub fn kept_rows_are_of_both()
-    ensures rows { (text former row : List ℕ) → has_bytes row ≡ true →
-        has_row (kept_rows text former) row ≡ (has_row text row && has_row former row) }
-    ensures lines { (text former : List ℕ) → lines_of (kept_rows text former)
-        ≡ filter (is_kept (lines_of former)) (lines_of text) ++ [] ∷ [] }
-    ensures short { (text former : List ℕ) → length (kept_rows text former) ≤ length text + 1 }
+/// Kept rows: each line of the text that is to be kept is there, and no other line of the text, in its order.
+pub fn kept_rows_are_lines()
+    ensures lines { (is_kept : List ℕ → Bool) (text : List ℕ) → lines_of (kept_rows is_kept text)
+        ≡ filter is_kept (lines_of text) ++ [] ∷ [] }
+    ensures short { (is_kept : List ℕ → Bool) (text : List ℕ) → length (kept_rows is_kept text) ≤ length text + 1 }
 {}
 
-/// Worked cases. The rows that two texts have in common.
+/// Worked cases. The lines of a text that are kept: those of one byte, and none.
 pub fn kept_rows_are_worked()
-    ensures found { map (has_row (codes "a\nbc\n\nd")) (codes "a" ∷ codes "bc" ∷ codes "d" ∷ [] ∷ [])
-        ≡ true ∷ true ∷ true ∷ true ∷ [] }
-    ensures not_found { map (has_row (codes "a\nbc")) (codes "b" ∷ codes "bcd" ∷ codes "A" ∷ codes "a\n" ∷ [] ∷ [])
-        ≡ false ∷ false ∷ false ∷ false ∷ false ∷ [] }
-    ensures nothing_in_common { kept_rows (codes "a\nb\n") (codes "c\nd\n") ≡ [] }
-    ensures all { kept_rows (codes "a\nb\n") (codes "a\nb\n") ≡ codes "a\nb\n" }
-    ensures removed { kept_rows (codes "a\nc\n") (codes "a\nb\nc\n") ≡ codes "a\nc\n" }
-    ensures twice { kept_rows (codes "a\nb\na\n") (codes "a\n") ≡ codes "a\na\n" }
-    ensures order { kept_rows (codes "c\nx\na\n") (codes "a\nb\nc\n") ≡ codes "c\na\n" }
-    ensures other_bytes { kept_rows (codes "a\r\nB\nc \n") (codes "a\nb\nc\n") ≡ [] }
-    ensures no_text { kept_rows [] (codes "a\n") ≡ [] }
-    ensures no_former { kept_rows (codes "a\n") [] ≡ [] }
-    ensures no_last_end { kept_rows (codes "a\nb") (codes "b\na") ≡ codes "a\nb\n" }
-    ensures no_bytes { kept_rows (codes "\na\n\n\nb\n") (codes "\na\n\nb\n") ≡ codes "a\nb\n" }
+    ensures some { kept_rows (λ line. length line == 1) (codes "a\nbc\n\nd\n") ≡ codes "a\nd\n" }
+    ensures order { kept_rows (λ line. length line == 1) (codes "c\nxx\na\nc\n") ≡ codes "c\na\nc\n" }
+    ensures no_last_end { kept_rows (λ line. length line == 1) (codes "a\nb") ≡ codes "a\nb\n" }
+    ensures no_text { kept_rows (λ line. length line == 1) [] ≡ [] }
+    ensures none { kept_rows (λ line. false) (codes "a\n") ≡ [] }
+    ensures bytes_alone { kept_rows (λ line. true) (codes "a\r\nB") ≡ codes "a\r\nB\n" }
 {}
 
-/// Worked cases. The reports of the rows that the former text lacks.
+/// Worked cases. The reports of the rows that are left out.
 pub fn left_rows_are_worked()
     ensures new { left_text (codes "HOTP a - 31\n# HOTP c\n\n HOTP\tb - 32\nHOTP/E d") (codes "HOTP a - 31\n")
-        ≡ codes "reload left line=4 user=b\nreload left line=5 user=d\n" }
-    ensures changed { left_text (codes "HOTP a - 32\n") (codes "HOTP a - 31\n")
-        ≡ codes "reload left line=1 user=a\n" }
-    ensures nothing_new { left_text (codes "b u\na v\n") (codes "a v\nb u\n") ≡ [] }
-    ensures no_rows { left_text (codes "#\n#x y\n \t\n") [] ≡ [] }
-    ensures no_user { left_text (codes "HOTP") [] ≡ codes "reload left line=1 user=\n" }
+        ≡ codes "enrol refused Full\nenrol left line=4 user=b\nenrol left line=5 user=d\n" }
+    ensures before { left_text (codes "x b\n\nx a\nx c\n") (codes "x a\n")
+        ≡ codes "enrol refused Full\nenrol left line=1 user=b\nenrol left line=4 user=c\n" }
+    ensures all_kept { left_text (codes "a v\nb u\n") (codes "a v\nb u\n") ≡ codes "enrol refused Full\n" }
+    ensures no_rows { left_text (codes "#\n#x y\n \t\n") [] ≡ codes "enrol refused Full\n" }
+    ensures no_user { left_text (codes "HOTP") [] ≡ codes "enrol refused Full\nenrol left line=1 user=\n" }
+    ensures second_of_two { left_from (codes "x a" ∷ []) 7 (codes "x a" ∷ codes "x a" ∷ [])
+        ≡ codes "enrol left line=8 user=a\n" }
+    ensures nexts { map (is_next (codes "a" ∷ codes "b" ∷ [])) (codes "a" ∷ codes "b" ∷ codes "A" ∷ [] ∷ [])
+        ≡ true ∷ false ∷ false ∷ false ∷ [] }
+    ensures no_next { is_next [] [] ≡ false }
     ensures bytes { map printed (32 ∷ 33 ∷ 126 ∷ 127 ∷ 200 ∷ []) ≡ 63 ∷ 33 ∷ 126 ∷ 63 ∷ 63 ∷ [] }
     ensures long_user { shown (replicate 65 97) ≡ replicate 64 97 }
 {}

@@ -1,11 +1,11 @@
-//! Reports the rows of a users file that its former text lacks.
+//! Reports the rows of a users file that are left out.
 
 ghost use Rattle.std.specs.Prelude.{◌≡◌, IfOk, OnOk, map, take};
 ghost use Rattle.std.specs.Io.KnownBytes.{Appends};
 ghost use Rattle.token_file.specs.Fields.{fields_of};
-ghost use Rattle.kept_rows.specs.Left.{first_of, head, is_comment, left_from, left_line, left_text, printed, report, report_of, shown};
+ghost use Rattle.kept_rows.specs.Left.{first_line, first_of, head, is_comment, left_from, left_text, printed, report, report_of, shown};
 
-use crate::rows::{is_among, lines_in};
+use crate::rows::{is_at, lines_in};
 use std::alloc::{AllocError, Global};
 use std::io::{self, ErrorKind, Write};
 use token_file::first_field;
@@ -66,7 +66,7 @@ fn write_shown<W: Write>(alloc: Global, writer: &mut W, user: &[u8]) -> io::Resu
 fn write_head<W: Write>(writer: &mut W, number: u64) -> io::Result<()>
     ensures { OnOk result (Appends (W.contents writer.old) (W.contents writer.new) (head number)) }
 {
-    write!(writer, "reload left line={number} user=")
+    write!(writer, "enrol left line={number} user=")
 }
 
 /// Writes the report of the row of a user, by the number of its line.
@@ -92,43 +92,39 @@ fn write_row<W: Write>(alloc: Global, writer: &mut W, number: u64, line: &[u8]) 
     }
 }
 
-/// Writes the report of a line, unless it is one of the former lines.
-fn write_line<W: Write>(
-    alloc: Global,
-    writer: &mut W,
-    number: u64,
-    line: &[u8],
-    former: &[&[u8]],
-) -> io::Result<()>
-    ensures { OnOk result (Appends (W.contents writer.old) (W.contents writer.new)
-        (left_line (map (λ line. line.now) former.now) number line.now)) }
-{
-    if is_among(former, line) {
-        return Ok(());
-    }
-    write_row(alloc, writer, number, line)
-}
-
-/// Writes the reports of lines, from 1 on.
+/// Writes the reports of lines, from 1 on, but for the kept ones, which they have in their order.
 fn write_lines<W: Write>(
     alloc: Global,
     writer: &mut W,
     lines: &[&[u8]],
-    former: &[&[u8]],
+    kept: &[&[u8]],
 ) -> io::Result<()>
     ensures { OnOk result (Appends (W.contents writer.old) (W.contents writer.new)
-        (left_from (map (λ line. line.now) former.now) 1 (map (λ line. line.now) lines.now))) }
+        (left_from (map (λ line. line.now) kept.now) 1 (map (λ line. line.now) lines.now))) }
 {
     let mut number: u64 = 1;
+    let mut place: usize = 0;
     for line in lines {
-        write_line(alloc, writer, number, line, former)?;
+        if is_at(kept, place, line) {
+            place += 1;
+        } else {
+            write_row(alloc, writer, number, line)?;
+        }
         number += 1;
     }
     Ok(())
 }
 
-/// Writes a line for each row of `text` that `former` lacks: `reload left line=K user=NAME`, by the number of its line
-/// and its second field. Comments and lines without fields are no rows.
+/// Writes what is told first.
+fn write_first<W: Write>(writer: &mut W) -> io::Result<()>
+    ensures { OnOk result (Appends (W.contents writer.old) (W.contents writer.new) first_line) }
+{
+    writer.write_all(b"enrol refused Full\n")
+}
+
+/// Writes that a store has no room for some rows of `text`, and each of them: `enrol refused Full`, then lines
+/// `enrol left line=K user=NAME`, by the number of the row's line and its second field. `kept` has the other rows, in
+/// their order. Comments and lines without fields are no rows.
 ///
 /// # Errors
 ///
@@ -137,13 +133,15 @@ pub fn write_left<W: Write>(
     alloc: Global,
     writer: &mut W,
     text: &[u8],
-    former: &[u8],
+    kept: &[u8],
 ) -> io::Result<()>
     ensures { OnOk result (Appends (W.contents writer.old) (W.contents writer.new)
-        (left_text text.now former.now)) }
+        (left_text text.now kept.now)) }
 {
-    let (Ok(lines), Ok(former)) = (lines_in(alloc, text), lines_in(alloc, former)) else {
+    let (Ok(lines), Ok(kept)) = (lines_in(alloc, text), lines_in(alloc, kept)) else {
         return Err(io::Error::from(ErrorKind::OutOfMemory));
     };
-    write_lines(alloc, writer, &lines, &former)
+    write_first(writer)?;
+    write_lines(alloc, writer, &lines, &kept)?;
+    Ok(())
 }

@@ -1,8 +1,8 @@
 //! Writers of a log, whose calls never fail.
 //!
-//! A [`SteadyWriter`] stands over a writer that may fail. It hands whole lines on, counts the lines that the writer below
-//! refuses, and tells their number when the writer works again. A [`SyslogWriter`] sends each line in a datagram, by an
-//! [`Outlet`]. A [`LogWriter`] is one of the two.
+//! A [`SteadyWriter`] stands over a writer that may fail. It hands whole lines on, counts the lines that the writer
+//! below refuses, and tells their number when the writer works again. A [`SyslogWriter`] sends each line in a datagram,
+//! by an [`Outlet`]. A [`LogWriter`] is one of the two.
 #![tactic(auto)]
 
 mod either;

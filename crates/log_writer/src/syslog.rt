@@ -84,7 +84,8 @@ impl<D: Outlet + Drop> SyslogWriter<D> {
     #[tactic(auto, using(crate::proofs::SyslogLemmas::none_told))]
     fn tell_lost(&mut self) -> bool
         ensures at_once { self.old.lost ≡ 0 → result ≡ true }
-        ensures offers { Grows (D.offers self.old.outlet) (D.offers self.new.outlet) (lost_offers self.old.lost result) }
+        ensures offers { Grows (D.offers self.old.outlet) (D.offers self.new.outlet)
+            (lost_offers self.old.lost result) }
         ensures line { self.new.line ≡ self.old.line }
         ensures lost { self.new.lost ≡ self.old.lost }
     {

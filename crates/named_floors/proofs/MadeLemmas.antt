@@ -1,5 +1,5 @@
 -- A store that is made from floors files, by what the steps did.
-use Rattle.std.proofs.Common.{◌≡◌, inl, inr, ℕ, ◌<◌, Bool, true, false, List, length, map, Result, Ok, Err, refl, sym, ap, subst, ◌∙◌, arith}
+use Rattle.std.proofs.Common.{◌≡◌, inl, inr, ℕ, ◌<◌, Bool, true, false, List, [], length, map, Result, Ok, Err, refl, sym, ap, subst, ◌∙◌, arith}
 use Rattle.std.specs.Prelude.{IfErr, IsErrAnd, IsTrue}
 use Rattle.std.proofs.lemmas.List.{length-append, length-map}
 use Rattle.sqlite.specs.Effect.{Database}
@@ -47,12 +47,19 @@ as_many_rows gathered names floors =
     omega (arith, entries, numbers, first, second, third, many)
 
 -- each gathered row is a row
-pub many_rows : (gathered : List NamedFloor) (names : List Entry) → 10000 < length gathered → 10000 < length (remade_entries gathered names)
+pub many_rows : (gathered : List NamedFloor) (names : List Entry) → 65536 < length gathered → 65536 < length (remade_entries gathered names)
 many_rows gathered names many =
     let roster = gathered_entries names gathered in
     let entries = length-append roster (new_entries roster names) in
     let first = length-map gathered (gathered_entry names) in
     omega (arith, many, entries, first)
+
+-- without tokens the gathered rows are all rows
+pub gathered_alone : (gathered : List NamedFloor) → length (remade_entries gathered []) ≡ length gathered
+gathered_alone gathered =
+    let entries = length-append (gathered_entries [] gathered) [] in
+    let first = length-map gathered (gathered_entry []) in
+    omega (arith, entries, first)
 
 -- the fault of rows that are not found
 pub known_fault : {A : Type 0} (gathered : List NamedFloor) (names : List Entry) (fault : NamedFault) (result : Result A NamedFault) → result ≡ Err fault

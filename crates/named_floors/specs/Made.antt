@@ -22,13 +22,13 @@ use Rattle.named_floors.specs.Remade.{remade_entries, remade_floors}
 -- when there are no rows for a store
 abbrev pub HasNoRows : List NamedFloor → List Entry → NamedFault → Type 0
 HasNoRows gathered names AnotherCluster = ⊥
-HasNoRows gathered names Full = 10000 < length (remade_entries gathered names)
+HasNoRows gathered names Full = 65536 < length (remade_entries gathered names)
 HasNoRows gathered names (Store fault) = IsTrue (is_failure fault) × (fault ≡ Unusable → ¬ AreDistinct names)
 
 -- whatever the disk returns: no store is of another cluster, and one is full if there are too many rows
 abbrev pub IsMakeFault : List NamedFloor → List Entry → NamedFault → Type 0
 IsMakeFault gathered names AnotherCluster = ⊥
-IsMakeFault gathered names Full = 10000 < length (remade_entries gathered names)
+IsMakeFault gathered names Full = 65536 < length (remade_entries gathered names)
 IsMakeFault gathered names (Store fault) = Unit {0}
 
 -- when each fault of the store comes
@@ -39,7 +39,7 @@ pub record IsUnmadeBy (names : List Entry) (db : Database) (fault : StoreFault) 
 -- when each fault comes
 abbrev pub IsUnmade : List NamedFloor → List Entry → Database → NamedFault → Type 0
 IsUnmade gathered names db AnotherCluster = ⊥
-IsUnmade gathered names db Full = 10000 < length (remade_entries gathered names)
+IsUnmade gathered names db Full = 65536 < length (remade_entries gathered names)
 IsUnmade gathered names db (Store fault) = IsUnmadeBy names db fault
 
 -- the tables of a new store, with the gathered rows followed by the tokens whose names no gathered row has

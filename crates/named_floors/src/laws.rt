@@ -1,6 +1,6 @@
 //! The laws of floors by names, and the worked cases and counterexamples of their definitions.
 
-ghost use Rattle.std.specs.Prelude.{◌≡◌, ℕ, List, [], ◌∷◌, true, false, map, replicate, slice_get, Some, None, Ok, Err, ⊤};
+ghost use Rattle.std.specs.Prelude.{◌≡◌, ℕ, List, [], ◌∷◌, true, false, length, map, replicate, slice_get, Some, None, Ok, Err, ⊤};
 ghost use Rattle.sqlite.specs.Effect.{Database};
 ghost use Rattle.sqlite.specs.Held.{Held as Conn, state};
 ghost use Rattle.sqlite.specs.State.{HasCleanDisk};
@@ -143,6 +143,10 @@ pub fn faults_are_worked()
         → IsUnmade gathered_two own_two (record { schema = no_schema; trees = trees }) (Store AlreadyThere) → ⊥ }
     ensures spent { (db : Database) → IsUnmade gathered_two own_two db (Store Spent) → ⊥ }
     ensures full { (db : Database) → IsUnmade gathered_two own_two db Full → ⊥ }
+    ensures room { (db : Database) (gathered : List NamedFloor) → length gathered ≡ 65536
+        → IsUnmade gathered [] db Full → ⊥ }
+    ensures no_room { (db : Database) (gathered : List NamedFloor) → length gathered ≡ 65537
+        → IsUnmade gathered [] db Full }
     ensures another_cluster { (db : Database) → IsUnmade gathered_two own_two db AnotherCluster → ⊥ }
 {}
 

@@ -11,10 +11,10 @@ ghost use Rattle.named_floors.specs.Made.{HasNoRows, IsMakeFault, IsUnmade, Make
 ghost use Rattle.named_floors.specs.Remade.{remade_entries, remade_floors};
 
 use crate::remaking::{RemadeRows, remade};
-use floor_store::StoreFault;
+use floor_store::{MAX_ROWS, StoreFault};
 use floors_file::{NamedFloor, NamedFloors, gather_named, gathered_are_greatest};
 use named_store::NamedFault;
-use otp_core::{MAX_TOKENS, Next};
+use otp_core::Next;
 use roster_sql::{Bond, Entry, make_named};
 use sqlite::{Alter, Connection};
 use std::alloc::Global;
@@ -30,7 +30,7 @@ fn gathered_of(alloc: Global, files: &[NamedFloors<'_>]) -> Result<Vec<NamedFloo
     }
 }
 
-/// Returns the rows of a store that is made from `files`, at most 10,000.
+/// Returns the rows of a store that is made from `files`, at most 65,536.
 fn rows_of(
     alloc: Global,
     names: &[Entry],
@@ -43,7 +43,7 @@ fn rows_of(
         r.entries.items ≡ remade_entries (gathered_rows (map named_value files.now)) names.now) }
     ensures floors { IfOk result (λ r.
         r.floors.items ≡ remade_floors (gathered_rows (map named_value files.now)) names.now floors.now) }
-    ensures few { IfOk result (λ r. vec_len r.floors ≤ 10000) }
+    ensures few { IfOk result (λ r. vec_len r.floors ≤ 65536) }
     ensures counted { IfOk result (λ r. vec_len r.entries ≡ vec_len r.floors) }
     ensures distinct { OnOk result
         (AreDistinct (remade_entries (gathered_rows (map named_value files.now)) names.now)) }
@@ -52,11 +52,11 @@ fn rows_of(
     // No two gathered rows have one name.
     gathered_are_greatest();
     let gathered = gathered_of(alloc, files)?;
-    if gathered.len() > MAX_TOKENS {
+    if gathered.len() > MAX_ROWS {
         return Err(NamedFault::Full);
     }
     let rows = remade(alloc, &gathered, names, floors)?;
-    if rows.entries.len() > MAX_TOKENS {
+    if rows.entries.len() > MAX_ROWS {
         return Err(NamedFault::Full);
     }
     Ok(rows)
@@ -69,7 +69,7 @@ fn rows_of(
 /// must be outside a transaction.
 ///
 /// # Errors
-/// - Returns `Full` if there are more than 10,000 rows.
+/// - Returns `Full` if there are more than 65,536 rows.
 /// - Returns `Store` with `AlreadyThere` if the database has a table with the name of one of the tables of version 2.
 /// - Returns `Store` with `Unusable` if the database has any other table, index or view, or two tokens have one name.
 /// - Returns `Store` with `Memory` or `Disk` if the allocator or the database fails.
@@ -92,7 +92,7 @@ pub fn make_from_floors<S: Alter>(
         (OpensRemade node boot (gathered_rows (map named_value files.now)) names.now floors.now own.now)
         (IsUnmade (gathered_rows (map named_value files.now)) names.now) result }
     ensures known { IfErr result (IsMakeFault (gathered_rows (map named_value files.now)) names.now) }
-    ensures few { OnOk result (length (remade_entries (gathered_rows (map named_value files.now)) names.now) ≤ 10000) }
+    ensures few { OnOk result (length (remade_entries (gathered_rows (map named_value files.now)) names.now) ≤ 65536) }
     ensures distinct { OnOk result
         (AreDistinct (remade_entries (gathered_rows (map named_value files.now)) names.now)) }
     ensures found { has_own_table conn.old.schema ≡ true → (conn.new ≡ conn.old) × IsErr result }

@@ -108,7 +108,7 @@ pub fn remade(
     names: &[Entry],
     floors: &[Next],
 ) -> Result<RemadeRows, Refusal>
-    requires rows { length gathered.now ≤ 10000 }
+    requires rows { length gathered.now ≤ 65536 }
     requires tokens { length names.now ≤ 10000 }
     requires counted { length floors.now ≡ length names.now }
     ensures entries { IfOk result (λ r. r.entries.items ≡ remade_entries gathered.now names.now) }

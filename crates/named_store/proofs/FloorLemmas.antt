@@ -5,11 +5,9 @@ use Rattle.std.proofs.lemmas.Bool.{ltb-true, cases_lt, lt-ltb}
 use Rattle.std.proofs.lemmas.List.{map-append, take_more}
 use Rattle.std.proofs.lemmas.Option.{get_or_from_slice_get, slice_get_within}
 use Rattle.std.proofs.lemmas.Slice.Eq.{bytes_eq-Decides}
-use Rattle.std.proofs.Math.Seq.{drop-cons}
-use Rattle.std.proofs.Math.ListN.{drop_of_length-le}
 use Rattle.floor_store.specs.Records.{RowRecord}
 use Rattle.roster_sql.specs.declared.entry.Entry.{Entry}
-use Rattle.named_store.specs.Floors.{IsRaised, raised_floor}
+use Rattle.named_store.specs.Floors.{raised_floor}
 
 -- one step keeps a floor or raises it
 step_keeps : (t : Bool) (floor next : ℕ) (b : Bool) → nat_lt floor next ≡ b → floor ≤ cond (t && b) next floor
@@ -50,23 +48,6 @@ row_kept (x ∷ roster) (h ∷ held) seed floor (suc row) next e at got same =
 
 -- ---- the loops
 
--- the rows after one row
-pub floor_step : (roster : List Entry) (held seed : List ℕ) (row greatest new all : ℕ) (d : Entry) (h : ℕ) → row < length roster → length held ≡ length roster
-    → new ≡ cond (bytes_eq (get_or roster row d).seed seed && nat_lt greatest (get_or held row h)) (get_or held row h) greatest
-    → raised_floor (drop row roster) (drop row held) seed greatest ≡ all → raised_floor (drop (row + 1) roster) (drop (row + 1) held) seed new ≡ all
-floor_step roster held seed row greatest new all d h low counted is was =
-    let next : row + 1 ≡ suc row = omega arith in
-    let entries : drop row roster ≡ get_or roster row d ∷ drop (suc row) roster = drop-cons roster row d low in
-    let floors : drop row held ≡ get_or held row h ∷ drop (suc row) held = drop-cons held row h (omega (arith, low, counted)) in
-    (λ i. raised_floor (drop (next i) roster) (drop (next i) held) seed (is i)) ∙ (λ i. raised_floor (sym entries i) (sym floors i) seed greatest) ∙ was
-
--- no row is left
-pub floor_end : (roster : List Entry) (held seed : List ℕ) (row greatest all : ℕ) → length roster ≤ row
-    → raised_floor (drop row roster) (drop row held) seed greatest ≡ all → greatest ≡ all
-floor_end roster held seed row greatest all past was =
-    let none : drop row roster ≡ [] = drop_of_length-le roster past in
-    ap (λ (l : List Entry). raised_floor l (drop row held) seed greatest) (sym none) ∙ was
-
 -- one floor more
 pub floors_more : (rows : List RowRecord) (n : ℕ) (row : RowRecord) → slice_get rows n ≡ Some row
     → map (λ r. r.next) (take (n + 1) rows) ≡ map (λ r. r.next) (take n rows) ++ row.next ∷ []
@@ -79,12 +60,3 @@ floors_more rows n row at =
 pub seeded_more : (f : ℕ → ℕ) (places : List ℕ) (n : ℕ) (d : ℕ) → n < length places
     → map f (take (n + 1) places) ≡ map f (take n places) ++ f (get_or places n d) ∷ []
 seeded_more f places n d low = ap (λ (l : List ℕ). map f l) (take_more places n d low) ∙ map-append f (take n places) (get_or places n d ∷ [])
-
--- the rows after one row, by what was read there
-pub floor_read : {e : Entry} (roster : List Entry) (held seed : List ℕ) (row greatest new all next : ℕ)
-    → IsRaised e seed greatest next new → row < length roster → length held ≡ length roster
-    → e ≡ get_or roster row e → next ≡ get_or held row next
-    → raised_floor (drop row roster) (drop row held) seed greatest ≡ all → raised_floor (drop (row + 1) roster) (drop (row + 1) held) seed new ≡ all
-floor_read {e} roster held seed row greatest new all next is low counted entry_is next_is was =
-    floor_step roster held seed row greatest new all e next low counted
-    (is.is ∙ (λ i. cond (bytes_eq (entry_is i).seed seed && nat_lt greatest (next_is i)) (next_is i) greatest)) was

@@ -1,5 +1,5 @@
 -- The greatest floors of seeds, and the puts that raise rows to them.
-use Rattle.std.proofs.Common.{◌≡◌, ◌⊎◌, ℕ, suc, ◌+◌, ◌<◌, ◌≤◌, Bool, true, false, cond, ◌&&◌, nat_lt, List, [], ◌∷◌, ◌++◌, length, take, get_or, Option, Some, None, inl, inr, BTreeMap, refl, sym, ap, subst, ◌∙◌, arith}
+use Rattle.std.proofs.Common.{◌≡◌, ◌⊎◌, ℕ, suc, ◌+◌, ◌<◌, ◌≤◌, Bool, true, false, cond, ◌&&◌, nat_lt, List, [], ◌∷◌, ◌++◌, length, take, get_or, Option, Some, None, inl, inr, BTreeMap, refl, sym, ap, subst, ◌∙◌, arith, map, slice_index_or}
 use Rattle.std.specs.Ordering.{nat_cmp}
 use Rattle.std.specs.Cmp.Lexicographic.{slice_cmp}
 use Rattle.std.specs.Str.{bytes_eq}
@@ -9,7 +9,8 @@ use Rattle.std.proofs.lemmas.List.{take_more, length-take-le}
 use Rattle.std.proofs.lemmas.Map.Text.{is_eq-slice_cmp}
 use Rattle.std.proofs.lemmas.Slice.Eq.{bytes_eq-Decides}
 use Rattle.roster_sql.specs.declared.entry.Entry.{Entry}
-use Rattle.named_store.specs.Floors.{AddsFloor, HasGreatest, lifted_by, raised_floor}
+use Rattle.named_store.specs.Floors.{AddsFloor, HasGreatest, lifted_by, no_entry, raised_floor, seeded_floor, seeded_floors}
+use Rattle.named_store.proofs.FloorLemmas.{seeded_more}
 
 -- one row behind the others
 raised_behind : (roster : List Entry) (held : List ℕ) (e : Entry) (next : ℕ) (seed : List ℕ) (floor : ℕ) → length held ≡ length roster
@@ -85,3 +86,13 @@ pub greatest_at : {e : Entry} (roster : List Entry) (held : List ℕ) (n next : 
 greatest_at {e} roster held n next old new adds low counted entry_is next_is has =
     greatest_more roster held n e next old new low counted has
     (subst (λ (f : ℕ). AddsFloor (get_or roster n e) f old new) next_is (subst (λ (x : Entry). AddsFloor x next old new) entry_is adds))
+
+-- the floor of one place more, by the index
+pub floors_lifted : (roster : List Entry) (held : List ℕ) (names : List Entry) (floors places all : List ℕ) (n item : ℕ) (index : BTreeMap (List ℕ) ℕ) → n < length places
+    → HasGreatest roster held index
+    → item ≡ lifted_by (tree.get (slice_cmp nat_cmp) index (slice_index_or names (get_or places n 0) no_entry).seed) (slice_index_or floors (get_or places n 0) 0)
+    → all ≡ seeded_floors roster held names floors (take n places) → all ++ item ∷ [] ≡ seeded_floors roster held names floors (take (n + 1) places)
+floors_lifted roster held names floors places all n item index low has is was =
+    let at : ℕ = get_or places n 0 in
+    let floor : item ≡ seeded_floor roster held names floors at = is ∙ has (slice_index_or names at no_entry).seed (slice_index_or floors at 0) in
+    (λ i. was i ++ floor i ∷ []) ∙ sym (seeded_more (seeded_floor roster held names floors) places n 0 low)

@@ -16,10 +16,6 @@ raised_floor (row ∷ roster) [] seed floor = floor
 raised_floor (row ∷ roster) (next ∷ held) seed floor =
     raised_floor roster held seed (if bytes_eq row.seed seed && nat_lt floor next then next else floor)
 
--- a floor after one row, with the floor `next`
-pub record IsRaised (row : Entry) (seed : List ℕ) (floor next result : ℕ) : Type 0 where
-  pub is : result ≡ (if bytes_eq row.seed seed && nat_lt floor next then next else floor)
-
 -- an entry in the place of one that is missing
 abbrev pub no_entry : Entry
 no_entry = record { name = []; seed = [] }

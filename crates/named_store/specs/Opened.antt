@@ -42,7 +42,7 @@ pub record HasUsableNames (db : Database) (node : ℕ) : Type 0 where
   pub schema : db.schema ≡ schema_of Named
   pub of_node : IsNode node
   pub tokens : ℕ
-  pub of_tokens : tokens ≤ 10000
+  pub of_tokens : tokens ≤ 65536
   pub self : HasUsableVersion db.trees 3 node tokens
   pub entries : (token : ℕ) → token < tokens → HasUsableEntry db.trees token
   pub bond : HasUsableBond db.trees
@@ -52,7 +52,7 @@ pub record HasNoRoom (db : Database) (node : ℕ) (names : List Entry) : Type 0 
   pub roster : List Entry
   pub own : BondRecord
   pub has : HasNames db node roster own
-  pub many : 10000 < length (rows_after roster names)
+  pub many : 65536 < length (rows_after roster names)
 
 -- when each fault comes
 abbrev pub IsCause : Database → ℕ → List Entry → BondRecord → NamedFault → Type 0

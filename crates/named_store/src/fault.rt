@@ -10,7 +10,7 @@ pub enum NamedFault {
     /// The store is bound to another cluster.
     #[error("AnotherCluster")]
     AnotherCluster,
-    /// The store would have more than 10,000 rows. Rows of retired tokens count.
+    /// The store would have more than 65,536 rows. Rows of retired tokens count.
     #[error("Full")]
     Full,
     /// The store has a fault.

@@ -5,7 +5,7 @@ ghost use Rattle.std.specs.BTreeMap as tree;
 ghost use Rattle.std.specs.Ordering.{nat_cmp};
 ghost use Rattle.std.specs.Cmp.Lexicographic.{slice_cmp};
 ghost use Rattle.floor_store.specs.Fault.{is_failure};
-ghost use Rattle.named_store.specs.Floors.{AddsFloor, HasGreatest, IsRaised, lifted_by, rise as spec_rise, raised_floor as spec_raised_floor, seeded_floors as spec_seeded_floors};
+ghost use Rattle.named_store.specs.Floors.{AddsFloor, HasGreatest, lifted_by, rise as spec_rise, seeded_floors as spec_seeded_floors};
 
 use floor_sql::{Put, Refusal};
 use floor_store::Row;
@@ -13,31 +13,6 @@ use otp_core::Next;
 use roster_sql::{Entry, NAME_LEN};
 use std::alloc::Global;
 use std::collections::BTreeMap;
-
-/// Returns the floor `next` of a row if it has the seed and a greater floor, and `greatest` otherwise.
-fn raised(row: &Entry, seed: &[u8; NAME_LEN], greatest: Next, next: Next) -> Next
-    ensures { IsRaised row.now seed.now greatest next result }
-{
-    if row.seed == *seed && greatest.value() < next.value() {
-        next
-    } else {
-        greatest
-    }
-}
-
-/// Returns the greatest of `floor` and the floors of all rows with the seed.
-fn raised_floor(roster: &[Entry], held: &[Next], seed: &[u8; NAME_LEN], floor: Next) -> Next
-    requires { length held.now ≡ length roster.now }
-    ensures { result ≡ spec_raised_floor roster.now held.now seed.now floor }
-{
-    let mut greatest = floor;
-    for row in 0..roster.len() {
-        let entry = roster[row];
-        let next = held[row];
-        greatest = raised(&entry, seed, greatest, next);
-    }
-    greatest
-}
 
 /// Returns the floor of each token at the given places, in order.
 ///
@@ -61,10 +36,11 @@ pub fn seeded_floors(
         all.items ≡ spec_seeded_floors roster.now held.now names.now floors.now places.now) }
     ensures failure { IfErr result (λ e. IsTrue (is_failure e.0)) }
 {
+    let greatest = greatest_floors(alloc, roster, held)?;
     let mut all = Vec::with_capacity(alloc, places.len())?;
     for place in places {
         let at = *place as usize;
-        all.push(raised_floor(roster, held, &names[at].seed, floors[at]))?;
+        all.push(lifted(&greatest, &names[at].seed, floors[at]))?;
     }
     Ok(all)
 }

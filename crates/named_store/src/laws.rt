@@ -1,5 +1,7 @@
 ghost use Rattle.std.specs.Prelude.{◌≡◌, ◌≤◌, ◌+◌, ℕ, List, [], ◌∷◌, codes, length, replicate, slice_get, Some};
+ghost use Rattle.sqlite.specs.Effect.{Database};
 ghost use Rattle.roster_sql.specs.Examples.{entry_of};
+ghost use Rattle.roster_sql.specs.Roster.{BondRecord};
 ghost use Rattle.roster_sql.specs.declared.entry.Entry.{Entry};
 ghost use Rattle.token_file.specs.Examples.{event_token, time_token};
 ghost use Rattle.token_file.specs.declared.token.Kind.{Kind};
@@ -9,7 +11,8 @@ ghost use Rattle.named_store.specs.Entries.{entries_of, entry_under};
 ghost use Rattle.named_store.specs.Examples.{known, retired, two_new};
 ghost use Rattle.named_store.specs.Floors.{raised_floor, seeded_floors};
 ghost use Rattle.named_store.specs.Looked.{AreAllSeated, IsFirstNew};
-ghost use Rattle.named_store.specs.Seating.{AreDistinct, AreNew, AreSeatsOf, has_name, name_at, new_entries, new_places};
+ghost use Rattle.named_store.specs.Opened.{HasNames, HasNoRoom};
+ghost use Rattle.named_store.specs.Seating.{AreDistinct, AreNew, AreSeatsOf, has_name, name_at, new_entries, new_places, rows_after};
 
 /// Worked cases, and counterexamples: seats of names, a row that no name has, and two new names.
 pub fn seats_are_worked()
@@ -40,6 +43,14 @@ pub fn looks_are_worked()
     ensures swapped { AreAllSeated retired known (0 ∷ 2 ∷ []) → ⊥ }
     ensures with_new_ones { AreAllSeated retired two_new (3 ∷ 0 ∷ 4 ∷ []) → ⊥ }
     ensures twice { AreAllSeated (entry_of 8 1 ∷ entry_of 8 2 ∷ []) (entry_of 8 1 ∷ []) (0 ∷ []) → ⊥ }
+{}
+
+/// Worked cases, and counterexamples: a store has no room for more than 65,536 rows.
+pub fn full_stores_are_worked()
+    ensures one_beyond { (db : Database) (names roster : List Entry) (own : BondRecord) → HasNames db 1 roster own
+        → length (rows_after roster names) ≡ 65537 → HasNoRoom db 1 names }
+    ensures last_one { (db : Database) (names : List Entry) (full : HasNoRoom db 1 names)
+        → length (rows_after full.roster names) ≡ 65536 → ⊥ }
 {}
 
 /// Worked cases: the entries of two tokens, in their order, and of one device with two users.

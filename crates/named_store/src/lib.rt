@@ -23,7 +23,8 @@ pub use entries::entries_of;
 pub use fault::{LookFault, NamedFault};
 pub use floors::seeded_floors;
 pub use laws::{
-    entries_are_worked, floors_are_kept, floors_are_worked, looks_are_worked, seats_are_worked,
+    entries_are_worked, floors_are_kept, floors_are_worked, full_stores_are_worked,
+    looks_are_worked, seats_are_worked,
 };
 pub use looking::{Looked, look_named};
 pub use opening::{RowCounts, enrol_and_count, open_named};

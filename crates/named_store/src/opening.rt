@@ -5,7 +5,7 @@ ghost use Rattle.std.specs.Option.{ForSome, option_to_list};
 ghost use Rattle.sqlite.specs.Held.{state};
 ghost use Rattle.sqlite.specs.State.{HasCleanDisk};
 ghost use Rattle.floor_store.specs.Fault.{is_failure};
-ghost use Rattle.floor_sql.specs.Calls.{HandsBack, IsOpenedAs};
+ghost use Rattle.floor_sql.specs.Calls.{HandsBack, IsOpenedAs, KeepsTables};
 ghost use Rattle.floor_sql.specs.Staged.{CanPut};
 ghost use Rattle.floor_sql.specs.declared.schema.Format.TheVariants.{Named};
 ghost use Rattle.roster_sql.specs.Enrolled.{Enrols};
@@ -44,7 +44,7 @@ pub(crate) fn open_counted<S: Alter>(
     tokens: u32,
 ) -> Result<SqlStore<S>, (Connection<S>, StoreFault)>
     requires idle { conn.in_transaction ≡ false }
-    requires tokens { tokens ≤ 10000 }
+    requires tokens { tokens ≤ 65536 }
     ensures content { IfOk result (IsOpenedAs S.Store Named conn node tokens) }
     ensures rows { IfOk result (λ store. length store.mirror.rows ≡ tokens) }
     ensures failure { IfErr result (λ e. IsTrue (is_failure e.1)) }
@@ -183,7 +183,7 @@ fn enrol_and_open<S: Alter>(
     entries: &[Entry],
 ) -> Result<SqlStore<S>, (Connection<S>, StoreFault)>
     requires idle { conn.in_transaction ≡ false }
-    requires numbers { tokens + length floors.now ≤ 10000 }
+    requires numbers { tokens + length floors.now ≤ 65536 }
     requires counted { length entries.now ≡ length floors.now }
     requires range { count + length puts.now < 2 ^ 63 }
     requires can { HasCleanDisk (state S.Store conn) → CanPut (state S.Store conn).now count puts.now }
@@ -213,7 +213,7 @@ fn open_grown<S: Alter>(
     requires idle { conn.in_transaction ≡ false }
     requires tokens { length floors.now ≡ length names.now }
     requires fresh { AreNew roster.now names.now seating.now.places.items seating.now.entries.items }
-    requires room { length roster.now + vec_len seating.now.entries ≤ 10000 }
+    requires room { length roster.now + vec_len seating.now.entries ≤ 65536 }
     requires few { vec_len seating.now.seats ≤ 10000 }
     ensures grown { IfOk result (IsGrown S.Store conn node roster.now names.now floors.now seating.now.seats.items) }
     ensures failure { IfErr result (λ e. IsTrue (is_failure e.1)) }
@@ -286,7 +286,7 @@ pub(crate) fn seated_at<S: Alter>(
 ///
 /// # Errors
 /// - Returns `AnotherCluster` if the store is bound to another cluster.
-/// - Returns `Full` if the store has no room for the new tokens.
+/// - Returns `Full` if the store has no room for the new tokens. The tables are as they were.
 /// - Returns `Store` with `Unusable` if the tables are not of version 3 or of another node, or a value is out of range.
 ///   So it does if two rows have one name, or two tokens do.
 /// - Returns `Store` with `Memory` or `Disk` if the allocator or the database fails.
@@ -311,6 +311,7 @@ pub fn enrol_and_count<S: Alter>(
         → IsCause (state S.Store conn).now node names.now own.now e.1) }
     ensures refused { IfErr result (λ e.
         IsRefused S.Store (EnrolsNames node names.now floors.now own.now) conn e.0) }
+    ensures full { IfErr result (λ e. e.1 ≡ NamedFault.Full → KeepsTables S.Store conn e.0) }
 {
     // For the proof: outside a transaction the connection shows the last commit.
     let _ = conn.is_autocommit();

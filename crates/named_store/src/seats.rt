@@ -26,7 +26,7 @@ pub struct Seating {
 impl Seating {
     /// Seats a token in its row, or in a new one behind the others.
     fn seat(&mut self, rows: u32, row: Option<u32>, place: u32, entry: Entry) -> Result<(), Refusal>
-        requires { rows + length self.old.entries.items ≤ 20000 }
+        requires { rows + length self.old.entries.items ≤ 80000 }
         ensures seats { OnOk result (self.new.seats.items
             ≡ self.old.seats.items ++ unwrap_or row (rows + length self.old.entries.items) ∷ []) }
         ensures places { OnOk result (self.new.places.items
@@ -61,7 +61,7 @@ fn add_name(
 
 /// Returns the index of a roster: the row of each name.
 fn index_of(alloc: Global, roster: &[Entry]) -> Result<BTreeMap<[u8; NAME_LEN], u32>, Refusal>
-    requires { length roster.now ≤ 10000 }
+    requires { length roster.now ≤ 65536 }
     ensures rows { IfOk result (HasRowsOf roster.now) }
     ensures distinct { OnOk result (AreDistinct roster.now) }
     ensures unusable { IfErr result (λ e. e.0 ≡ Unusable → ¬ AreDistinct roster.now) }
@@ -86,7 +86,7 @@ fn index_of(alloc: Global, roster: &[Entry]) -> Result<BTreeMap<[u8; NAME_LEN], 
 /// - Returns `Unusable` if two rows of the store have one name, or two tokens do.
 /// - Returns `Memory` if the allocator refuses the memory.
 pub fn find_seats(alloc: Global, roster: &[Entry], names: &[Entry]) -> Result<Seating, Refusal>
-    requires rows { length roster.now ≤ 10000 }
+    requires rows { length roster.now ≤ 65536 }
     requires tokens { length names.now ≤ 10000 }
     ensures seats { IfOk result (λ all. AreSeatsOf roster.now names.now all.seats.items) }
     ensures fresh { IfOk result (λ all. AreNew roster.now names.now all.places.items all.entries.items) }

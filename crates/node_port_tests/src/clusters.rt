@@ -34,7 +34,7 @@ fn has_text(alloc: Global, fault: Fault, text: &str) -> Result<bool, AllocError>
 
 /// Returns whether a cluster over the users file and `lines` prints `printed`, and fails with `text` or, if `text` is
 /// empty, ends well.
-fn ends_so<N: Net>(
+pub(crate) fn ends_so<N: Net>(
     alloc: Global,
     net: &N,
     nodes: u8,

@@ -5,6 +5,8 @@
 #[cfg(test)]
 mod clusters;
 #[cfg(test)]
+mod rounds;
+#[cfg(test)]
 mod sockets;
 #[cfg(test)]
 mod turns;

@@ -9,7 +9,7 @@ use std::time::{Clock as TimeSource, Duration};
 use udp_port::{NoClock, SystemClock, UdpPort, client_number};
 
 /// Binds a socket to its own address on this machine, with a read timeout of 50 milliseconds.
-fn socket<R: Net>(net: &R) -> io::Result<UdpSocket> {
+pub(crate) fn socket<R: Net>(net: &R) -> io::Result<UdpSocket> {
     let own = SocketAddrV4::new(Ipv4Addr::LOCALHOST, 0);
     let socket = UdpSocket::bind(net, SocketAddr::V4(own))?;
     socket.set_read_timeout(Some(Duration::from_millis(50)))?;
@@ -17,7 +17,7 @@ fn socket<R: Net>(net: &R) -> io::Result<UdpSocket> {
 }
 
 /// Returns the address of a socket.
-fn address(socket: &UdpSocket) -> Result<SocketAddrV4, Fail> {
+pub(crate) fn address(socket: &UdpSocket) -> Result<SocketAddrV4, Fail> {
     match socket.local_addr()? {
         SocketAddr::V4(address) => Ok(address),
         SocketAddr::V6(_) => Err(Fail::from("an IPv6 address")),

@@ -1,8 +1,10 @@
 -- The state of a node, as a report tells it.
 use Rattle.std.specs.Prelude.{◌≡◌, ℕ, ◌+◌, nat_lt, Bool, if◌then◌else◌, List, [], ◌∷◌, length, Option}
+use Rattle.std.specs.Option.{option_map}
 use Rattle.floor_store.specs.Content.{Content}
 use Rattle.floor_store.specs.Records.{RowRecord}
 use Rattle.node_log.specs.declared.counters.Counters.{Counters}
+use Rattle.operator_text.specs.declared.status.Rows.{Rows}
 use Rattle.operator_text.specs.declared.status.Status.{Status}
 use Rattle.node_reports.specs.declared.standing.Standing.{Standing}
 
@@ -14,6 +16,10 @@ is_closed moment row = nat_lt moment row.gate.until
 abbrev pub closed_in : ℕ → List RowRecord → ℕ
 closed_in moment [] = 0
 closed_in moment (row ∷ rows) = (if is_closed moment row then 1 else 0) + closed_in moment rows
+
+-- the number of all rows of a store, with the maximum number
+abbrev pub rows_within : Option ℕ → Option Rows
+rows_within rows = option_map (λ number. record { number = number; limit = 65536 }) rows
 
 -- what a state tells of the store with a content
 pub record TellsStore (moment : ℕ) (content : Content) (status : Status) : Type 0 where

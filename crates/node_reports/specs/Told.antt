@@ -1,5 +1,5 @@
 -- What the text of a report says.
-use Rattle.std.specs.Prelude.{◌≡◌, ℕ, List, replicate}
+use Rattle.std.specs.Prelude.{◌≡◌, ℕ, List, length, Option, Some, replicate}
 use Rattle.std.specs.List.{concat}
 use Rattle.sqlite.specs.Store.{Ghosts}
 use Rattle.sqlite.specs.Held.{state}
@@ -17,7 +17,7 @@ use Rattle.operator_text.specs.declared.status.Status.{Status as StatusValue}
 use Rattle.seated_store.specs.Seated.{SeatedRecord}
 use Rattle.seated_store.specs.Seats.{seated_content}
 use Rattle.node_reports.specs.Roster.{roster_text}
-use Rattle.node_reports.specs.Standing.{TellsStanding, TellsStore}
+use Rattle.node_reports.specs.Standing.{TellsStanding, TellsStore, rows_within}
 use Rattle.node_reports.specs.declared.named.NamedRows.{NamedRows}
 use Rattle.node_reports.specs.declared.standing.Standing.{Standing}
 
@@ -32,6 +32,10 @@ telling_of rows moment = record {
   names = rows.own.now.names;
   life = rows.own.now.life;
 }
+
+-- the number of all rows below the seats
+abbrev pub rows_below : {S : Type 0} → SeatedRecord (SqlHeld S) → Option ℕ
+rows_below store = Some (length store.inner.mirror.rows)
 
 -- The text is that of the offline command over the rows of the store. It has no text of another report.
 abbrev pub IsNamedText : {S : Type 0} → Ghosts S → NamedRows → SeatedRecord (SqlHeld S) → Report → ℕ → List ℕ → Type 0
@@ -48,18 +52,19 @@ IsNamedText g rows store Passes moment text = ⊥
 -- ---- over any store
 
 -- The text is that of the state of a node.
-pub record IsStatusText {S : Type 0} (held : S → Held) (standing : Standing) (node : Hosted S) (moment : ℕ)
-    (text : List ℕ) : Type 0 where
+pub record IsStatusText {S : Type 0} (held : S → Held) (standing : Standing) (rows : S → Option ℕ) (node : Hosted S)
+    (moment : ℕ) (text : List ℕ) : Type 0 where
   pub status : StatusValue
   pub store : (held node.store).is_clean → TellsStore moment (held node.store).content status
+  pub all_rows : status.rows ≡ rows_within (rows node.store)
   pub stays : TellsStanding standing moment status
   pub written : text ≡ concat (status_text status)
 
 -- The text is that of a report on a node. All reports but the state read the store alone.
-abbrev pub IsReportText : {S : Type 0} → (S → Held) → Standing → (S → Report → ℕ → List ℕ → Type 0) → Hosted S → Report
-    → ℕ → List ℕ → Type 0
-IsReportText held standing says node Status moment text = IsStatusText held standing node moment text
-IsReportText held standing says node Gates moment text = says node.store Gates moment text
-IsReportText held standing says node Floors moment text = says node.store Floors moment text
-IsReportText held standing says node Passes moment text = says node.store Passes moment text
-IsReportText held standing says node Roster moment text = says node.store Roster moment text
+abbrev pub IsReportText : {S : Type 0} → (S → Held) → Standing → (S → Option ℕ)
+    → (S → Report → ℕ → List ℕ → Type 0) → Hosted S → Report → ℕ → List ℕ → Type 0
+IsReportText held standing rows says node Status moment text = IsStatusText held standing rows node moment text
+IsReportText held standing rows says node Gates moment text = says node.store Gates moment text
+IsReportText held standing rows says node Floors moment text = says node.store Floors moment text
+IsReportText held standing rows says node Passes moment text = says node.store Passes moment text
+IsReportText held standing rows says node Roster moment text = says node.store Roster moment text

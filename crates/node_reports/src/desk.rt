@@ -189,14 +189,15 @@ impl<'d, N: TimeSource, T: Drop, U> Desk<'d, N, T, U> {
     where
         T: Told<S>,
         ensures text { IfOk result (λ told. IfSome told (λ text. (moment : ℕ) × IsReportText S.held self.now.standing
-            (T.says self.now.told) node.now report moment text.items)) }
+            T.rows (T.says self.now.told) node.now report moment text.items)) }
         ensures events { P.events port.new ≡ P.events port.old }
         ensures stays { P.setup port.new ≡ P.setup port.old }
     {
         let moment = self.moment();
         match report {
             Report::Status => {
-                let status = self.standing.status(node, port.counters(), moment)?;
+                let rows = self.told.all_rows(node.store());
+                let status = self.standing.status(node, rows, port.counters(), moment)?;
                 Ok(Some(status_text(self.alloc, &status)?))
             }
             Report::Gates | Report::Floors | Report::Passes | Report::Roster => {
@@ -231,8 +232,8 @@ impl<'d, N: TimeSource, T: Drop, U> Desk<'d, N, T, U> {
     where
         T: Told<S>,
         ensures kept { IfSome self.new.kept (λ kept. (kept.operator ≡ operator) × (kept.report ≡ report)
-            × ((moment : ℕ) × IsReportText S.held self.old.standing (T.says self.old.told) node.now report moment
-            kept.text.items)) }
+            × ((moment : ℕ) × IsReportText S.held self.old.standing T.rows (T.says self.old.told) node.now report
+            moment kept.text.items)) }
         ensures same { (self.new.standing ≡ self.old.standing) × (self.new.told ≡ self.old.told)
             × (self.new.until ≡ self.old.until) }
         ensures orders { (self.new.ordered ≡ self.old.ordered) × (self.new.draining ≡ self.old.draining) }

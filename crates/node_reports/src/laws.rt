@@ -1,10 +1,11 @@
-ghost use Rattle.std.specs.Prelude.{◌≡◌, ◌∷◌, ◌++◌, [], ℕ, IsTrue, List, codes};
+ghost use Rattle.std.specs.Prelude.{◌≡◌, ◌∷◌, ◌++◌, [], ℕ, IsTrue, List, None, Some, codes};
 ghost use Rattle.operator_text.specs.Pages.{are_whole, joined, pages_of};
 ghost use Rattle.operator_text.specs.declared.reply.Reply.TheVariants.{NoRequest, NoRight, NoUser};
 ghost use Rattle.operator_text.specs.declared.request.Report.TheVariants.{Gates};
 ghost use Rattle.sealed_wire.specs.declared.right.Right.TheVariants.{Operator, Reader};
 ghost use Rattle.token_file.specs.Credential.{Credential};
 ghost use Rattle.node_reports.specs.Desk.{ChangesNothing, wish_in};
+ghost use Rattle.node_reports.specs.Standing.{rows_within};
 ghost use Rattle.node_reports.specs.Text.{IsText, lines_of};
 ghost use Rattle.node_reports.specs.declared.desk.Wish.TheVariants.{Drain, OpenGate, Page, Refused};
 
@@ -31,6 +32,12 @@ pub fn texts_are_worked()
     ensures no_lf { lines_of (codes "ab") ≡ [] }
     ensures text { IsText (codes "a\nbc\n") }
     ensures no_text { IsText (codes "a\nb") → ⊥ }
+{}
+
+/// Worked cases. What a state tells of the rows of a store.
+pub fn rows_are_worked()
+    ensures by_names { rows_within (Some 52429) ≡ Some (record { number = 52429; limit = 65536 }) }
+    ensures by_position { rows_within None ≡ None }
 {}
 
 /// Readers: whatever the text of a reader's request, it neither opens a gate nor ends the node.

@@ -16,7 +16,8 @@ mod told;
 
 pub use desk::Desk;
 pub use laws::{
-    pages_are_the_text, readers_can_be_broken, readers_change_nothing, texts_are_worked,
+    pages_are_the_text, readers_can_be_broken, readers_change_nothing, rows_are_worked,
+    texts_are_worked,
 };
 pub use named::{NamedRows, floors_text, gates_text, roster_text};
 pub use passes::PassList;

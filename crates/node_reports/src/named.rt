@@ -126,9 +126,15 @@ impl NamedRows<'_> {
 }
 
 impl<A: Alter + Drop> Told<SeatedStore<SqlStore<A>>> for NamedRows<'_> {
-    ghost use Rattle.node_reports.specs.Told.{IsNamedText};
+    ghost use Rattle.node_reports.specs.Told.{IsNamedText, rows_below};
 
     ghost says = { IsNamedText A.Store };
+
+    ghost rows = { rows_below };
+
+    fn all_rows(&self, store: &SeatedStore<SqlStore<A>>) -> Option<u32> {
+        Some(store.inner().tokens())
+    }
 
     fn text(
         &self,

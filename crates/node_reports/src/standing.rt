@@ -5,13 +5,13 @@ ghost use Rattle.std.specs.List.{concat};
 ghost use Rattle.operator_text.specs.Status.{status_text};
 ghost use Rattle.operator_text.specs.StatusLine.{line_text};
 ghost use Rattle.node_reports.specs.Standing as spec;
-ghost use Rattle.node_reports.specs.Standing.{TellsCounters, TellsStanding, TellsStore, is_closed};
+ghost use Rattle.node_reports.specs.Standing.{TellsCounters, TellsStanding, TellsStore, is_closed, rows_within};
 
 use field_text::{cut_at, read_number};
-use floor_store::{FloorStore, StoreFault};
+use floor_store::{FloorStore, MAX_ROWS, StoreFault};
 use node_log::Counters;
 use oath_node::Node;
-use operator_text::{Status, StatusLine, Version};
+use operator_text::{Rows, Status, StatusLine, Version};
 use std::alloc::Global;
 use vote_core::Place;
 
@@ -73,19 +73,35 @@ fn closed_in<S: FloorStore>(store: &S, moment: u64) -> Result<u32, StoreFault>
     Ok(closed)
 }
 
+/// Returns the number of all rows of a store, with the maximum number.
+fn rows_within(rows: Option<u32>) -> Option<Rows>
+    ensures { result ≡ rows_within rows }
+{
+    match rows {
+        Some(number) => Some(Rows {
+            number,
+            limit: MAX_ROWS as u32,
+        }),
+        None => None,
+    }
+}
+
 impl Standing {
-    /// Returns the state of a node at a moment, with what its port counted.
+    /// Returns the state of a node at a moment, with what its port counted. `rows` is the number of all rows of the
+    /// store, if it knows tokens by their names.
     ///
     /// # Errors
     /// Returns the fault that broke the store.
     pub(crate) fn status<S: FloorStore>(
         &self,
         node: &Node<'_, S>,
+        rows: Option<u32>,
         counters: Counters,
         moment: u64,
     ) -> Result<Status, StoreFault>
         ensures store { (S.held node.now.store).is_clean → IfOk result (TellsStore moment
             (S.held node.now.store).content) }
+        ensures rows { IfOk result (λ status. status.rows ≡ rows_within rows) }
         ensures standing { IfOk result (TellsStanding self.now moment) }
         ensures counters { IfOk result (TellsCounters counters) }
     {
@@ -101,6 +117,7 @@ impl Standing {
             started: self.started,
             fingerprint: self.fingerprint,
             book: self.book,
+            rows: rows_within(rows),
             tokens: store.tokens(),
             pending: u32::try_from(node.waiting()).unwrap_or(u32::MAX),
             closed,

@@ -7,12 +7,19 @@ use std::alloc::Global;
 
 /// What tells the reports of a node over a store.
 pub trait Told<S: FloorStore> {
-    ghost use Rattle.std.specs.Prelude.{ℕ, List, IfOk, IfSome};
+    ghost use Rattle.std.specs.Prelude.{◌≡◌, ℕ, List, IfOk, IfSome, Option};
     ghost use Rattle.oath_node.specs.Reading.{ReadsNode};
     ghost use Rattle.operator_text.specs.declared.request.Report.{Report as AnyReport};
 
     // What the text of a report on a store says at a moment.
     ghost says: { Self → S → AnyReport → ℕ → List ℕ → Type 0 };
+
+    // The number of all rows of a store, if it knows tokens by their names.
+    ghost rows: { S → Option ℕ };
+
+    /// Returns the number of all rows of the store, also of retired tokens, if it knows tokens by their names.
+    fn all_rows(&self, store: &S) -> Option<u32>
+        ensures { result ≡ rows store.now };
 
     /// Returns the text of a report on the store, at the given moment, or None if there is no such report.
     ///

@@ -2,7 +2,7 @@
 
 use arrayvec::ArrayVec;
 use operator_text::{
-    CommitTimes, Other, Page, Refused, Report, Request, Seen, Status, Version, read_page,
+    CommitTimes, Other, Page, Refused, Report, Request, Rows, Seen, Status, Version, read_page,
     read_request, write_request,
 };
 use sealed_port::Unopened;
@@ -17,6 +17,7 @@ clock 1800000000
 started 1700000000
 fingerprint b1061f3a2d61dfbd
 book 2a8f4a2865495c60
+rows 3 of 65536
 tokens 2
 pending 0
 closed 1
@@ -80,6 +81,10 @@ fn status() -> Status {
         started: 1_700_000_000,
         fingerprint: *b"b1061f3a2d61dfbd",
         book: Some(*b"2a8f4a2865495c60"),
+        rows: Some(Rows {
+            number: 3,
+            limit: 65_536,
+        }),
         tokens: 2,
         pending: 0,
         closed: 1,
@@ -118,7 +123,7 @@ fn tells_the_status(rt: HostRuntime) -> Result<(), Fail> {
     assert!(rt; read_page(&bytes) == Some((STATUS, None)));
     let first = status.write_line(0).ok_or_else(|| Fail::new("no line"))?;
     assert!(rt; first.as_slice() == b"node 1 of 3\n".as_slice());
-    assert!(rt; status.write_line(23).is_none());
+    assert!(rt; status.write_line(24).is_none());
     Ok(())
 }
 

@@ -135,8 +135,8 @@ pub record EndsTurns (turns most : ℕ) (answers : ℕ → Bool → Type 0) : Ty
   pub asked : (turns ≡ 0) ⊎ ((0 < most) × answers left is_early)
   pub all : is_early ≡ false → left ≡ 0
 
--- A call that serves a node for `turns` turns, or ends early. `answers` holds for the number of turns that are left, for
--- whether a client's line waits then, and for the last answer. All else is as `Serves` has it.
+-- A call that serves a node for `turns` turns, or ends early. `answers` holds for the number of turns that are left,
+-- for whether a client's line waits then, and for the last answer. All else is as `Serves` has it.
 pub record ServesUntil {S : Type 0} (held : S → Held) (old new : Hosted S) (first entries : Option (List PortEvent))
     (asked told : Option (List (Option ℕ))) (turns : ℕ) (answers : ℕ → Bool → Bool → Type 0)
     (result : Result Served ServeFault) : Type 0 where

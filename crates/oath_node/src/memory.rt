@@ -47,7 +47,7 @@ impl<'b> Node<'b, MemStore> {
         requires tokens { length floors.now ≡ length book.now }
         ensures { IfOk result (IsInMemoryAt boot book.now settings place key.now floors.now) }
     {
-        // For the proof: a book has at most 10,000 tokens, and a store at most 10,000 rows.
+        // For the proof: a book has at most 10,000 tokens.
         let _tokens = book.len();
         let Ok(store) = MemStore::new_at(alloc, boot, floors) else {
             return Err(AllocError);

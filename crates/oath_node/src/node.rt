@@ -87,6 +87,8 @@ impl<'b, S: FloorStore> Node<'b, S> {
         ensures place { IfOk result (λ node. node.voter.place ≡ place) }
         ensures refused { IfErr result (λ refusal. IsRefused S.held store refusal.0 refusal.1) }
     {
+        // For the proof: a book states its limit when it returns its number of tokens.
+        let _tokens = book.len();
         let mut store = store;
         let Ok(answers) = Answers::new(alloc) else {
             return Err((store, OpenFault::Memory));
@@ -115,6 +117,8 @@ impl<'b, S: FloorStore> Node<'b, S> {
     pub fn restart(&mut self) -> Result<(), NodeFault>
         ensures { Restarts S.held self.old self.new result }
     {
+        // For the proof: a book states its limit when it returns its number of tokens.
+        let _tokens = self.book.len();
         let place = self.parts.voter.place();
         match Voter::open(&mut self.parts.store, place) {
             Ok(voter) => {

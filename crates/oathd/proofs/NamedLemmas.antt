@@ -95,9 +95,9 @@ module _ {S : Type 0} (g : Ghosts S) (finds : sql.Held S → Type 0) where
         → ActsFor g finds text (acts.Unlock user) settings place named old new
     unlocked user store h = (users, (store, subst (λ (n : ℕ). UnlocksNamed g finds named settings 16777216 n user.now store users) same h))
 
-    pub migrated : (conn : sql.Held S) → HasNamed g finds named default_limits 16777216 node conn users
-        → ActsFor g finds text acts.Migrate settings place named old new
-    migrated conn h = (users, (conn, subst (λ (n : ℕ). HasNamed g finds named default_limits 16777216 n conn users) same h))
+    pub migrated : (members : Option ℕ) (conn : sql.Held S) → members ≡ Some place.n → HasNamed g finds named default_limits 16777216 node conn users
+        → ActsFor g finds text (acts.Migrate members) settings place named old new
+    migrated members conn said h = (users, (said, (conn, subst (λ (n : ℕ). HasNamed g finds named default_limits 16777216 n conn users) same h)))
 
   -- floors are raised by names
   pub levelled_named : (text : List ℕ) (settings : Limits) (place : PlaceRecord) (named : NamedCluster) (old new : Option (List ℕ)) (floors : Vec (Bor (List ℕ)))

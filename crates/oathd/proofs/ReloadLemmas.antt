@@ -2,21 +2,22 @@
 use Rattle.std.proofs.Common.{◌≡◌, ◌<◌, ◌∙◌, length, inl, inr, ℕ, Bool, List, [], ◌∷◌, ◌++◌, Option, Some, None, refl, ap, sym, subst, arith}
 use Rattle.std.specs.Borrow.{Bor}
 use Rattle.std.specs.Global.{Vec}
-use Rattle.std.specs.Option.{option_map}
 use Rattle.std.specs.Prelude.{◌⊎◌, Result, Ok, Err, IfErr, IfOk, IsErrAnd, min}
 use Rattle.sqlite.specs.Store.{Ghosts}
 use Rattle.sqlite.specs.Held as sql
 use Rattle.otp_core.specs.Limits.{Limits}
 use Rattle.otp_core.specs.Range.{IsMoment}
 use Rattle.token_file.specs.Credential.{Credential}
+use Rattle.token_file.specs.UsersFile.{Import}
+use Rattle.token_file.specs.declared.fault.LineFault.{LineFault}
 use Rattle.roster_sql.specs.declared.entry.Entry.{Entry}
-use Rattle.kept_rows.specs.Kept.{kept_rows}
 use Rattle.named_store.specs.Entries.{entries_of}
 use Rattle.named_store.specs.Seating.{AreDistinct}
 use Rattle.oath_node.specs.declared.turns.Served.{Served}
 use Rattle.oathd_database.specs.Serving.{IsAgain}
 use Rattle.oathd_database.specs.declared.serving.Serving.{Serving}
 use Rattle.oathd_database.specs.Users.{IsImported}
+use Rattle.oathd_roster.specs.Enrolled.{IsServedText}
 use Rattle.oathd_roster.specs.Served.{EndsServingNamed, HasServedNamed}
 use Rattle.oathd_roster.specs.Users.{IsUnnamed}
 use Rattle.oathd_roster.specs.declared.cluster.NamedCluster.{NamedCluster}
@@ -26,7 +27,7 @@ use Rattle.oathd_words.specs.declared.store_words.ClientWords.{ClientWords}
 use Rattle.oathd_words.specs.declared.store_words.ClusterWords.{ClusterWords}
 use Rattle.oathd_words.specs.declared.store_words.ClusterWords.TheVariants.{Named}
 use Rattle.oathd.specs.Named.{IsNamedOf, NamedEndsSo, fault_of}
-use Rattle.oathd.specs.Reload.{AreBoots, AreServedBoots, IsBoot, IsNextOf, IsNextText, IsOfBoot, IsRefused, IsReloaded, IsServedText, IsTaken, answers_of, former_of, named_reason_of}
+use Rattle.oathd.specs.Reload.{AreBoots, AreServedBoots, IsBoot, IsNextOf, IsNextText, IsOfBoot, IsRefused, IsReloaded, IsTaken, answers_of, named_reason_of}
 use Rattle.oathd.specs.Serve.{IsAskedFor, IsMemberOf, IsRunOf}
 use Rattle.oathd.specs.declared.fault.Fault.{Fault as Program}
 use Rattle.oathd.specs.declared.refusal.Refusal.{Refusal}
@@ -37,16 +38,6 @@ use Rattle.oathd.specs.declared.watch.Found.TheVariants.{Text, Unread}
 use Rattle.oathd.proofs.NamedLemmas.{ended_named}
 
 -- ---- One boot
-
--- without a former text the own one is served
-alone_text : (text same : List ℕ) (former : Option (List ℕ)) (served : List ℕ) → former ≡ None → text ≡ same → IsServedText text former served → served ≡ same
-alone_text text same None served none is h = h ∙ is
-alone_text text same (Some former) served none is h = absurd cc
-
--- a boot serves its own text
-own_text : (text : List ℕ) (former : Option (List ℕ)) (served : List ℕ) → served ≡ text → IsServedText text former served
-own_text text None served is = is
-own_text text (Some former) served is = inl is
 
 module _ {S : Type 0} (g : Ghosts S) (finds : sql.Held S → Type 0) (named : NamedCluster) (moment : ℕ) (kept since now : ℕ) (serving : Serving)
     (counts : Served) (users : List ℕ) (h : HasServedNamed g finds named moment serving (answers_of kept since now) (Ok counts) users) where
@@ -59,10 +50,11 @@ module _ {S : Type 0} (g : Ghosts S) (finds : sql.Held S → Type 0) (named : Na
       ]
 
   -- the boot
-  pub boot_served : (asked : Serving) (boot next : Boot) → IsMoment moment → IsAgain asked serving → serving.turns ≡ boot.turns → users ≡ boot.text.items
-      → next.turns ≡ min kept boot.turns → IsNextText asked.settings named.salt boot.text.items next.text.items (former_of next)
+  pub boot_served : (asked : Serving) (boot next : Boot) (text : List ℕ) → IsMoment moment → IsAgain asked serving → serving.turns ≡ boot.turns
+      → text ≡ boot.text.items → IsServedText g named serving.settings finds moment serving.place.me text users
+      → next.turns ≡ min kept boot.turns → IsNextText asked.settings named.salt boot.text.items next.text.items
       → IsBoot g finds (λ other. other ≡ asked) (λ other. other ≡ named) boot next
-  boot_served asked boot next at again same text is of = record {
+  boot_served asked boot next text at again same text_is of is taken = record {
     kept = kept;
     since = since;
     now = now;
@@ -77,65 +69,12 @@ module _ {S : Type 0} (g : Ghosts S) (finds : sql.Held S → Type 0) (named : Na
       counts = counts;
       served = h;
     };
-    of_text = own_text boot.text.items (former_of boot) users text;
+    of_text = subst (λ (t : List ℕ). IsServedText g named serving.settings finds moment serving.place.me t users) text_is of;
     left_are = is;
-    next_text = subst (λ (limits : Limits). IsNextText limits named.salt users next.text.items (former_of next)) (sym again.of_settings)
-        (subst (λ (served : List ℕ). IsNextText asked.settings named.salt served next.text.items (former_of next)) (sym text) of);
+    next_text = subst (λ (limits : Limits). IsNextText limits named.salt boot.text.items next.text.items) (sym again.of_settings) taken;
   }
 
 module _ {S : Type 0} (g : Ghosts S) (finds : sql.Held S → Type 0) (IsAsked : Serving → Type 0) (IsCluster : NamedCluster → Type 0) where
-  -- a boot with the same turns, whose text is another's
-  pub boot_for : (boot other next : Boot) → other.turns ≡ boot.turns
-      → ((served : List ℕ) → IsServedText other.text.items (former_of other) served → IsServedText boot.text.items (former_of boot) served)
-      → IsBoot g finds IsAsked IsCluster other next → IsBoot g finds IsAsked IsCluster boot next
-  boot_for boot other next same texts h =
-      let served = h.served in
-      record {
-        kept = h.kept;
-        since = h.since;
-        now = h.now;
-        served = record {
-          serving = served.serving;
-          asked = subst (λ (turns : ℕ). IsOfBoot IsAsked turns served.serving) same served.asked;
-          named = served.named;
-          of_cluster = served.of_cluster;
-          moment = served.moment;
-          is_moment = served.is_moment;
-          users = served.users;
-          counts = served.counts;
-          served = served.served;
-        };
-        of_text = texts served.users h.of_text;
-        left_are = subst (λ (turns : ℕ). next.turns ≡ min h.kept turns) same h.left_are;
-        next_text = h.next_text;
-      }
-
-  -- the same if it ends well
-  boot_for_result : (boot other : Boot) (result : Result Boot Program) → other.turns ≡ boot.turns
-      → ((served : List ℕ) → IsServedText other.text.items (former_of other) served → IsServedText boot.text.items (former_of boot) served)
-      → IfOk result (IsBoot g finds IsAsked IsCluster other) → IfOk result (IsBoot g finds IsAsked IsCluster boot)
-  boot_for_result boot other (Ok next) same texts h = boot_for boot other next same texts h
-  boot_for_result boot other (Err fault) same texts h = tt
-
-  -- a boot with the text of another and no former one
-  pub boot_alone : (boot other : Boot) (result : Result Boot Program) → other.turns ≡ boot.turns → other.text ≡ boot.text → other.former ≡ None
-      → IfOk result (IsBoot g finds IsAsked IsCluster other) → IfOk result (IsBoot g finds IsAsked IsCluster boot)
-  boot_alone boot other result same text alone h =
-      boot_for_result boot other result same (λ served of. own_text boot.text.items (former_of boot) served
-      (alone_text other.text.items boot.text.items (former_of other) served (ap (λ (former : Option (Vec ℕ)). option_map (λ (t : Vec ℕ). t.items) former) alone)
-      (ap (λ (t : Vec ℕ). t.items) text) of)) h
-
-  -- a boot with the rows of another's text that its former text has too
-  pub boot_kept : (boot other : Boot) (former : Vec ℕ) (result : Result Boot Program) → other.turns ≡ boot.turns
-      → other.text.items ≡ kept_rows boot.text.items former.items → other.former ≡ None → boot.former ≡ Some former
-      → IfOk result (IsBoot g finds IsAsked IsCluster other) → IfOk result (IsBoot g finds IsAsked IsCluster boot)
-  boot_kept boot other former result same text alone is h =
-      boot_for_result boot other result same (λ served of.
-      subst (λ (f : Option (List ℕ)). IsServedText boot.text.items f served)
-      (sym (ap (λ (former : Option (Vec ℕ)). option_map (λ (t : Vec ℕ). t.items) former) is))
-      (inr (alone_text other.text.items (kept_rows boot.text.items former.items) (former_of other) served
-      (ap (λ (former : Option (Vec ℕ)). option_map (λ (t : Vec ℕ). t.items) former) alone) text of))) h
-
   -- the parameters and the cluster of a boot were asked for
   boot_as_asked : (asked : Serving) (named : NamedCluster) (boot next : Boot) → IsAsked asked → IsCluster named
       → IsBoot g finds (λ other. other ≡ asked) (λ other. other ≡ named) boot next → IsBoot g finds IsAsked IsCluster boot next
@@ -196,25 +135,32 @@ boots_more IsLater first last next (left ∷ boots) h boot = (h.0, boots_more Is
 -- ---- The text of the next boot
 
 -- what is next after what was found
-pub next_of : (limits : Limits) (salt served : List ℕ) (found : Option Found) (text : List ℕ) (former : Option (List ℕ))
-    → IsNextOf limits salt served found text former → IsNextText limits salt served text former
-next_of limits salt served None text former h = subst (λ (f : Option (List ℕ)). IsNextText limits salt served text f) (sym h.1) h.0
-next_of limits salt served (Some (Unread refusal)) text former h =
-    subst (λ (f : Option (List ℕ)). IsNextText limits salt served text f) (sym h.1) h.0
-next_of limits salt served (Some (Text other)) text former (inl taken) =
-    subst (λ (f : Option (List ℕ)). IsNextText limits salt served text f) (sym taken.2)
-    (refl, subst (λ (t : List ℕ). IsTaken limits salt t) (sym taken.1) taken.0)
-next_of limits salt served (Some (Text other)) text former (inr stays) =
-    subst (λ (f : Option (List ℕ)). IsNextText limits salt served text f) (sym stays.3) stays.2
+pub next_of : (limits : Limits) (salt text : List ℕ) (found : Option Found) (next : List ℕ) → IsNextOf limits salt text found next
+    → IsNextText limits salt text next
+next_of limits salt text None next h = inl h
+next_of limits salt text (Some (Unread refusal)) next h = inl h
+next_of limits salt text (Some (Text other)) next (inl taken) = inr (subst (λ (t : List ℕ). IsTaken limits salt t) (sym taken.1) taken.0)
+next_of limits salt text (Some (Text other)) next (inr stays) = inl stays.2
 
 -- a refused text changes nothing
-pub refused_stays : (limits : Limits) (salt served slice : List ℕ) (found : Option Found) (other : Vec ℕ) (refusal : Refusal) → found ≡ Some (Text other)
-    → slice ≡ other.items → IsRefused limits salt slice refusal → IsNextOf limits salt served found served None
-refused_stays limits salt served slice found other refusal is same h =
-    subst (λ (f : Option Found). IsNextOf limits salt served f served None) (sym is)
-    (inr (refusal, subst (λ (text : List ℕ). IsRefused limits salt text refusal) same h, refl, refl))
+pub refused_stays : (limits : Limits) (salt text slice : List ℕ) (found : Option Found) (other : Vec ℕ) (refusal : Refusal) → found ≡ Some (Text other)
+    → slice ≡ other.items → IsRefused limits salt slice refusal → IsNextOf limits salt text found text
+refused_stays limits salt text slice found other refusal is same h =
+    subst (λ (f : Option Found). IsNextOf limits salt text f text) (sym is)
+    (inr (refusal, subst (λ (t : List ℕ). IsRefused limits salt t refusal) same h, refl))
 
 -- ---- A text that is read
+
+-- the outcome of an import
+abbrev book_in : Result Import (ℕ × LineFault) → List Credential
+book_in (Ok import) = import.book
+book_in (Err fault) = []
+
+-- a text without bytes is not taken
+pub nothing_taken : (limits : Limits) (salt : List ℕ) → IsTaken limits salt [] → ⊥
+nothing_taken limits salt taken =
+    let none : [] ≡ taken.import.book = ap book_in taken.import.imported in
+    let some = taken.some in omega (arith, some, ap (λ (book : List Credential). length book) none)
 
 -- a book without a token
 no_book : (book : List Credential) → length book ≡ 0 → book ≡ []

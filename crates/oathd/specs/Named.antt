@@ -166,8 +166,9 @@ module _ {S : Type 0} (g : Ghosts S) (finds : sql.Held S → Type 0) where
       (store : SqlHeld S) × UnlocksNamed g finds named settings 16777216 place.me user.now store users
   Acts text acts.Roster settings place named old new users =
       HasToldRoster g finds named settings 16777216 place.me old new users
-  Acts text acts.Migrate settings place named old new users =
-      (conn : sql.Held S) × HasNamed g finds named default_limits 16777216 place.me conn users
+  Acts text (acts.Migrate members) settings place named old new users =
+      (members ≡ Some place.n)
+      × ((conn : sql.Held S) × HasNamed g finds named default_limits 16777216 place.me conn users)
   Acts text (acts.Level floors) settings place named old new users =
       IsLevelledByNames text place.me named (length floors.items)
 

@@ -1,12 +1,10 @@
 -- A node by names that takes its users file again when it changes.
 use Rattle.std.specs.Prelude.{◌≡◌, ◌⊎◌, ◌+◌, ◌<◌, ◌≤◌, ℕ, Bool, true, false, List, [], ◌∷◌, Option, None, Some, length, min}
-use Rattle.std.specs.Option.{option_map}
 use Rattle.sqlite.specs.Store.{Ghosts}
 use Rattle.sqlite.specs.Held as sql
 use Rattle.otp_core.specs.Limits.{Limits}
 use Rattle.named_store.specs.Entries.{entries_of}
 use Rattle.named_store.specs.Seating.{AreDistinct}
-use Rattle.kept_rows.specs.Kept.{kept_rows}
 use Rattle.oathd_words.specs.declared.store_words.ClusterWords.{ClusterWords}
 use Rattle.oathd_words.specs.declared.store_words.ClusterWords.TheVariants.{Given, Named}
 use Rattle.oathd_database.specs.Commands.{HasImport}
@@ -15,6 +13,7 @@ use Rattle.oathd_database.specs.declared.fault.Fault as database
 use Rattle.oathd_database.specs.declared.fault.Fault.TheVariants.{CannotWrite, NoClock, Users, Store, Socket}
 use Rattle.oathd_database.specs.declared.fault.Fault.TheVariants as faults
 use Rattle.oathd_database.specs.declared.serving.Serving.{Serving}
+use Rattle.oathd_roster.specs.Enrolled.{IsServedText}
 use Rattle.oathd_roster.specs.Users.{IsUnnamed}
 use Rattle.oathd_roster.specs.declared.cluster.NamedCluster.{NamedCluster}
 use Rattle.oathd_roster.specs.declared.fault.RosterFault.{RosterFault}
@@ -23,7 +22,7 @@ use Rattle.oathd.specs.Named.{IsNamedOf, IsServedByNames}
 use Rattle.oathd.specs.declared.fault.Fault.{Fault}
 use Rattle.oathd.specs.declared.fault.Fault.TheVariants.{Database, Floors, Task, Unlock, Roster, Seats, Names}
 use Rattle.oathd.specs.declared.refusal.Refusal.{Refusal}
-use Rattle.oathd.specs.declared.refusal.Refusal.TheVariants.{Line, SameName, NoTokens, CannotRead, Memory, Full}
+use Rattle.oathd.specs.declared.refusal.Refusal.TheVariants.{Line, SameName, NoTokens, CannotRead, Memory}
 use Rattle.oathd.specs.declared.reload.Boot.{Boot}
 use Rattle.oathd.specs.declared.watch.Found.{Found}
 use Rattle.oathd.specs.declared.watch.Found.TheVariants.{Text, Unread}
@@ -39,12 +38,12 @@ reason_of (Users fault) = Line fault
 reason_of (Store fault) = CannotRead
 reason_of Socket = CannotRead
 
--- the reason for a fault of a users file by names, or of its new tokens
+-- the reason for a fault of a users file by names; the last two are none of them
 abbrev pub named_reason_of : RosterFault → Refusal
 named_reason_of (roster.Command fault) = reason_of fault
 named_reason_of (roster.SameName row) = SameName row
 named_reason_of roster.AnotherCluster = CannotRead
-named_reason_of roster.Full = Full
+named_reason_of roster.Full = CannotRead
 
 -- the reason for a fault of the program at a users file
 abbrev pub file_reason_of : Fault → Refusal
@@ -70,24 +69,17 @@ IsRefused limits salt text refusal =
     ((import : HasImport limits 0 16777216 text) × (import.book ≡ []) × (refusal ≡ NoTokens))
     ⊎ ((fault : RosterFault) × IsUnnamed salt limits 0 16777216 fault text × (refusal ≡ named_reason_of fault))
 
--- The next text and the former one, after a boot that served `served`, for what was found. A text that is refused, and
--- a file that can't be read, change nothing.
-abbrev pub IsNextOf : Limits → List ℕ → List ℕ → Option Found → List ℕ → Option (List ℕ) → Type 0
-IsNextOf limits salt served None text former = (text ≡ served) × (former ≡ None)
-IsNextOf limits salt served (Some (Unread refusal)) text former = (text ≡ served) × (former ≡ None)
-IsNextOf limits salt served (Some (Text other)) text former =
-    (IsTaken limits salt other.items × (text ≡ other.items) × (former ≡ Some served))
-    ⊎ ((refusal : Refusal) × IsRefused limits salt other.items refusal × (text ≡ served) × (former ≡ None))
+-- The next text, after a boot with the text `text`, for what was found. A text that is refused, and a file that can't
+-- be read, change nothing.
+abbrev pub IsNextOf : Limits → List ℕ → List ℕ → Option Found → List ℕ → Type 0
+IsNextOf limits salt text None next = next ≡ text
+IsNextOf limits salt text (Some (Unread refusal)) next = next ≡ text
+IsNextOf limits salt text (Some (Text other)) next = (IsTaken limits salt other.items × (next ≡ other.items))
+    ⊎ ((refusal : Refusal) × IsRefused limits salt other.items refusal × (next ≡ text))
 
--- the next text after a boot that served `served`: the same one, or another one that is taken
-abbrev pub IsNextText : Limits → List ℕ → List ℕ → List ℕ → Option (List ℕ) → Type 0
-IsNextText limits salt served text None = text ≡ served
-IsNextText limits salt served text (Some former) = (former ≡ served) × IsTaken limits salt text
-
--- the text that a boot serves: the next one, or its rows that the former one has too
-abbrev pub IsServedText : List ℕ → Option (List ℕ) → List ℕ → Type 0
-IsServedText text None served = served ≡ text
-IsServedText text (Some former) served = (served ≡ text) ⊎ (served ≡ kept_rows text former)
+-- the next text after a boot with the text `text`: the same one, or one that is taken
+abbrev pub IsNextText : Limits → List ℕ → List ℕ → List ℕ → Type 0
+IsNextText limits salt text next = (next ≡ text) ⊎ IsTaken limits salt next
 
 -- ---- The end of a boot
 
@@ -104,24 +96,22 @@ abbrev pub IsOfBoot : (Serving → Type 0) → ℕ → Serving → Type 0
 IsOfBoot IsAsked turns serving =
     (asked : Serving) × IsAsked asked × IsAgain asked serving × (serving.turns ≡ turns)
 
--- the former text of a boot
-abbrev pub former_of : Boot → Option (List ℕ)
-former_of boot = option_map (λ text. text.items) boot.former
-
 -- Databases are opened by a connection that shows what `finds` says. `IsAsked` holds for the parameters that were asked
 -- for, and `IsCluster` for the cluster.
 module _ {S : Type 0} (g : Ghosts S) (finds : sql.Held S → Type 0) (IsAsked : Serving → Type 0)
     (IsCluster : NamedCluster → Type 0) where
-  -- A boot of a node: it was served by names for the tokens of its text, for its turns. The next boot has those that
-  -- are left, and the same text or one that is taken.
+  -- A boot of a node: it was served by names for the tokens of its text, for its turns. If the store has no room for
+  -- the new ones, it was served for those that the store has. The next boot has the turns that are left, and the same
+  -- text or one that is taken.
   pub record IsBoot (boot next : Boot) : Type 0 where
     pub kept : ℕ
     pub since : ℕ
     pub now : ℕ
     pub served : IsServedByNames g finds (IsOfBoot IsAsked boot.turns) IsCluster (answers_of kept since now)
-    pub of_text : IsServedText boot.text.items (former_of boot) served.users
+    pub of_text : IsServedText g served.named served.serving.settings finds served.moment served.serving.place.me
+        boot.text.items served.users
     pub left_are : next.turns ≡ min kept boot.turns
-    pub next_text : IsNextText served.serving.settings served.named.salt served.users next.text.items (former_of next)
+    pub next_text : IsNextText served.serving.settings served.named.salt boot.text.items next.text.items
 
 -- One after another, from `first` to `last`. The list has what each leaves.
 abbrev pub AreBoots : {A : Type 0} → (A → A → Type 0) → A → A → List A → Type 0

@@ -1,6 +1,7 @@
 use crate::floors::PathFault;
 use oathd_causes::{Cause, NamesFault};
 use oathd_database::UnlockFault;
+use oathd_floors::NamingFault;
 use oathd_roster::RosterFault;
 use oathd_seats::SeatsFault;
 use program_edge::{OutsideFault, ProgramFault};
@@ -27,7 +28,7 @@ pub(crate) enum Fault<'a> {
     /// A fault of a command that looks at a store by names, and of no other one.
     #[error("{0}")]
     Seats(SeatsFault<'a>),
-    /// The cluster file gives names or none, and the command is for the other kind of store.
+    /// The words, the cluster file or the users file don't fit a store by names.
     #[error("{0}")]
     Names(NamesFault),
 }
@@ -135,6 +136,15 @@ impl From<RosterFault> for Fault<'_> {
         match fault {
             RosterFault::Command(fault) => Fault::Database(fault),
             other => Fault::Roster(other),
+        }
+    }
+}
+
+impl From<NamingFault> for Fault<'_> {
+    fn from(fault: NamingFault) -> Self {
+        match fault {
+            NamingFault::Roster(fault) => Fault::from(fault),
+            NamingFault::OtherKind(row) => Fault::Names(NamesFault::OtherKind(row)),
         }
     }
 }

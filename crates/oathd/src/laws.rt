@@ -2,7 +2,7 @@ ghost use Rattle.std.specs.Prelude.{◌≡◌, ◌+◌, ◌∷◌, ℕ, [], None
 ghost use Rattle.otp_core.specs.Limits.{default_limits};
 ghost use Rattle.oathd_database.specs.declared.fault.Fault.TheVariants as faults;
 ghost use Rattle.oathd_roster.specs.declared.fault.RosterFault.TheVariants as roster;
-ghost use Rattle.oathd.specs.Reload.{AreBoots, IsNextOf, IsNextText, IsServedText, answers_of, file_reason_of, named_reason_of, reason_of};
+ghost use Rattle.oathd.specs.Reload.{AreBoots, IsNextOf, IsNextText, answers_of, file_reason_of, named_reason_of, reason_of};
 ghost use Rattle.oathd.specs.declared.fault.Fault.TheVariants as program;
 ghost use Rattle.oathd.specs.declared.refusal.Refusal.TheVariants as reasons;
 ghost use Rattle.oathd.specs.declared.watch.Found.TheVariants.{Unread};
@@ -21,21 +21,14 @@ pub(crate) fn boots_are_worked()
     ensures second_of_more { AreBoots {A = ℕ} (λ turns left. left + 3 ≡ turns) 9 2 (6 ∷ 2 ∷ []) → ⊥ }
 {}
 
-/// Worked cases. The text of the next boot, and the text that a boot serves.
+/// Worked cases. The text of the next boot.
 pub(crate) fn texts_are_worked()
-    ensures nothing_found { IsNextOf default_limits [] (7 ∷ []) None (7 ∷ []) None }
-    ensures unread { IsNextOf default_limits [] (7 ∷ []) (Some (Unread reasons.CannotRead)) (7 ∷ []) None }
-    ensures unread_stays { IsNextOf default_limits [] (7 ∷ []) (Some (Unread reasons.CannotRead)) (8 ∷ []) None → ⊥ }
-    ensures nothing_stays { IsNextOf default_limits [] (7 ∷ []) None (8 ∷ []) None → ⊥ }
-    ensures same { IsNextText default_limits [] (7 ∷ []) (7 ∷ []) None }
-    ensures another { IsNextText default_limits [] (7 ∷ []) (8 ∷ []) None → ⊥ }
-    ensures another_former { IsNextText default_limits [] (7 ∷ []) (8 ∷ []) (Some (9 ∷ [])) → ⊥ }
-    ensures alone { IsServedText (7 ∷ []) None (7 ∷ []) }
-    ensures next { IsServedText (7 ∷ []) (Some (8 ∷ [])) (7 ∷ []) }
-    ensures kept { IsServedText (7 ∷ 10 ∷ 8 ∷ 10 ∷ []) (Some (8 ∷ 10 ∷ 9 ∷ [])) (8 ∷ 10 ∷ []) }
-    ensures former { IsServedText (7 ∷ []) (Some (8 ∷ [])) (8 ∷ []) → ⊥ }
-    ensures neither { IsServedText (7 ∷ []) (Some (8 ∷ [])) (9 ∷ []) → ⊥ }
-    ensures not_alone { IsServedText (7 ∷ []) None (8 ∷ []) → ⊥ }
+    ensures nothing_found { IsNextOf default_limits [] (7 ∷ []) None (7 ∷ []) }
+    ensures unread { IsNextOf default_limits [] (7 ∷ []) (Some (Unread reasons.CannotRead)) (7 ∷ []) }
+    ensures unread_stays { IsNextOf default_limits [] (7 ∷ []) (Some (Unread reasons.CannotRead)) (8 ∷ []) → ⊥ }
+    ensures nothing_stays { IsNextOf default_limits [] (7 ∷ []) None (8 ∷ []) → ⊥ }
+    ensures same { IsNextText default_limits [] (7 ∷ []) (7 ∷ []) }
+    ensures another { IsNextText default_limits [] (7 ∷ []) [] → ⊥ }
 {}
 
 /// Worked cases. The reasons of refusals.
@@ -43,7 +36,7 @@ pub(crate) fn reasons_are_worked()
     ensures memory { reason_of faults.Memory ≡ reasons.Memory }
     ensures socket { reason_of faults.Socket ≡ reasons.CannotRead }
     ensures same_name { named_reason_of (roster.SameName 3) ≡ reasons.SameName 3 }
-    ensures full { named_reason_of roster.Full ≡ reasons.Full }
+    ensures full { named_reason_of roster.Full ≡ reasons.CannotRead }
     ensures another_cluster { named_reason_of roster.AnotherCluster ≡ reasons.CannotRead }
     ensures command { named_reason_of (roster.Command faults.Memory) ≡ reasons.Memory }
     ensures of_program { file_reason_of (program.Database faults.Memory) ≡ reasons.Memory }

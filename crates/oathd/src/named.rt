@@ -1,6 +1,6 @@
 //! Carries out the commands over a store by names.
 
-ghost use Rattle.std.specs.Prelude.{◌≡◌, ◌≤◌, ℕ, List, Option, IfErr, IfOk, IfSome, length};
+ghost use Rattle.std.specs.Prelude.{◌≡◌, ◌≤◌, ℕ, List, Option, Some, IfErr, IfOk, IfSome, length};
 ghost use Rattle.std.specs.Option.{unwrap_or};
 ghost use Rattle.sqlite_wal.specs.Files.{image_at};
 ghost use Rattle.cluster_file.specs.ClusterFile.{cluster_value};
@@ -15,7 +15,7 @@ use crate::databases::{Site, present_moment};
 use crate::fault::Fault;
 use crate::floors::{floors_texts, with_named_paths};
 use crate::shared::tell_shared_secret;
-use crate::users::checked_users_text;
+use crate::users::{checked_users_text, users_text};
 use cluster_file::{Cluster, ClusterFault, LineFault};
 use floors_file::MAX_NAMED_FLOORS_LEN;
 use oath_node::Never;
@@ -77,6 +77,18 @@ fn moment_or(moment: Option<u64>, now: u64) -> u64
     }
 }
 
+/// Checks that the cluster had `members` members until now. Votes count for the number of members in which they were
+/// cast, and a store without names doesn't say it.
+fn check_members<'a>(members_were: Option<u8>, members: u8) -> Result<(), Fault<'a>>
+    ensures { IfOk result (λ _. members_were ≡ Some members) }
+{
+    match members_were {
+        Some(were) if were == members => Ok(()),
+        Some(were) => Err(Fault::Names(NamesFault::OtherMembers(were, members))),
+        None => Err(Fault::Names(NamesFault::NoMembersWere)),
+    }
+}
+
 impl<'a> Site<'_, 'a> {
     /// Serves a node over its store by names.
     pub(crate) fn serve_named<S: Start, O: Write>(
@@ -90,14 +102,14 @@ impl<'a> Site<'_, 'a> {
             (λ other. other ≡ serving.entry) (λ named. named ≡ cluster.now) result }
     {
         let moment = present_moment(self.rt)?;
-        let users = self.users(serving.settings, moment)?;
-        let (alloc, rt, found) = (self.alloc, self.rt, self.found(start));
-        let (is_logged, settings) = (serving.is_logged, serving.settings);
-        tell_shared_secret(alloc, is_logged, users.get_ref(), settings, log);
+        let (alloc, rt, settings) = (self.alloc, self.rt, serving.settings);
+        let text = users_text(alloc, rt, self.users, settings, moment)?;
+        let (is_logged, found) = (serving.is_logged, self.found(start));
+        tell_shared_secret(alloc, is_logged, &text, settings, log);
         let _served = serve_named_store(
             alloc,
             rt,
-            users,
+            text.as_slice(),
             moment,
             serving,
             cluster,
@@ -247,11 +259,13 @@ impl<'a> Site<'_, 'a> {
         settings: Settings,
         place: Place,
         named: &NamedCluster,
+        members_were: Option<u8>,
     ) -> Result<(), Fault<'a>>
         ensures { (old : Option (List ℕ)) (new : Option (List ℕ)) → IfOk result (λ _. ActsFor
             ⟦<FileStore<FileFrom<S>> as Store>⟧ (FindsFiles (image_at S.Start)) self.now.cluster.now
-            acts.Migrate settings place named.now old new) }
+            (acts.Migrate members_were) settings place named.now old new) }
     {
+        check_members(members_were, place.n())?;
         let (users, found) = (self.users_alone()?, self.found(start));
         let _conn = name_store(self.alloc, users, place.me(), named, found)?;
         Ok(())
@@ -372,7 +386,9 @@ impl<'a> Site<'_, 'a> {
             NamedAct::Gates => self.gates_named(start, settings, place, &named, held),
             NamedAct::Unlock { user } => self.unlock_named(start, settings, place, &named, user),
             NamedAct::Roster => self.roster_named(start, settings, place, &named, held),
-            NamedAct::Migrate => self.migrate_named(start, settings, place, &named),
+            NamedAct::Migrate { members_were } => {
+                self.migrate_named(start, settings, place, &named, members_were)
+            }
             NamedAct::Level { floors } => self.level_named(start, settings, place, &named, floors),
         }
     }

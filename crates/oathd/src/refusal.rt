@@ -25,9 +25,6 @@ pub(crate) enum Refusal {
     /// The allocator refused the memory.
     #[error("Memory")]
     Memory,
-    /// The store has no room for its new tokens.
-    #[error("Full")]
-    Full,
 }
 
 impl From<oathd_database::Fault> for Refusal {
@@ -53,8 +50,8 @@ impl From<RosterFault> for Refusal {
         match fault {
             RosterFault::Command(fault) => Refusal::from(fault),
             RosterFault::SameName(row) => Refusal::SameName(row),
-            RosterFault::Full => Refusal::Full,
-            RosterFault::AnotherCluster => Refusal::CannotRead,
+            // No fault of reading a users file.
+            RosterFault::AnotherCluster | RosterFault::Full => Refusal::CannotRead,
         }
     }
 }

@@ -1,7 +1,6 @@
 //! Serves a node by names whose users file is taken again when it changes.
 
-ghost use Rattle.std.specs.Prelude.{◌≡◌, ◌⊎◌, ◌<◌, ◌≤◌, ◌^◌, ℕ, None, false, length, Err, IfErr, IfOk};
-ghost use Rattle.std.specs.Option.{option_map};
+ghost use Rattle.std.specs.Prelude.{◌≡◌, ◌⊎◌, ◌<◌, ◌≤◌, ◌^◌, ℕ, false, Err, IfErr, IfOk};
 ghost use Rattle.sqlite_wal.specs.Files.{image_at};
 ghost use Rattle.oathd_database.specs.File.{FindsFiles};
 ghost use Rattle.oathd_words.specs.StoreWords.{IsClusterInRange};
@@ -17,10 +16,9 @@ use crate::shared::tell_shared_secret;
 use crate::users::users_text;
 use crate::watch::{Found, Stamp, Watch, stamp_of};
 use floor_store::StoreFault;
-use kept_rows::{kept_rows, write_left};
 use oathd_causes::{NamesFault, Standing};
 use oathd_database::{KeptSocket, Serving};
-use oathd_roster::{NamedCluster, RosterFault, read_named_users, serve_named_store};
+use oathd_roster::{NamedCluster, read_named_users, serve_named_store};
 use oathd_tasks::{cluster_in, cluster_key, member_place};
 use oathd_words::{ClientWords, ClusterWords};
 use otp_core::Settings;
@@ -36,26 +34,8 @@ struct Boot {
     /// The text of the users file, and the stamp of the file when it was read.
     text: Vec<u8>,
     taken: Option<Stamp>,
-    /// The text of the boot before, if it was another one.
-    former: Option<Vec<u8>>,
     /// The number of turns that are left.
     turns: u64,
-}
-
-impl Boot {
-    /// Returns a boot without one before.
-    fn with_turns(text: Vec<u8>, taken: Option<Stamp>, turns: u64) -> Boot
-        ensures turns { result.turns ≡ turns }
-        ensures text { result.text ≡ text }
-        ensures former { result.former ≡ None }
-    {
-        Boot {
-            text,
-            taken,
-            former: None,
-            turns,
-        }
-    }
 }
 
 /// What holds of the boots after the first one.
@@ -76,11 +56,6 @@ impl Later for Boot {
 
     ghost later = { λ asked named. IsBoot ⟦<FileStore<FileFrom<Unknown>> as Store>⟧
         (FindsFiles (image_at ⟦<Unknown as Start>⟧)) (λ other. other ≡ asked) (λ other. other ≡ named) };
-}
-
-/// Returns whether a boot ended because the store has no room for its new tokens.
-fn is_full(served: &Result<Boot, Fault<'_>>) -> bool {
-    matches!(served, Err(Fault::Roster(RosterFault::Full)))
 }
 
 /// Refuses a text that a node does not take: with a fault, without a token, or with one name for two tokens.
@@ -104,19 +79,8 @@ fn tell_refusal<W: Write>(is_logged: bool, refusal: Refusal, writer: &mut W)
     }
 }
 
-/// Writes the log's lines of a users file for whose new rows the store has no room, if there is a log. A failed write is
-/// ignored.
-fn tell_full<W: Write>(alloc: Global, is_logged: bool, text: &[u8], former: &[u8], writer: &mut W)
-    ensures unlogged { is_logged ≡ false → writer.new ≡ writer.old }
-{
-    if is_logged {
-        let _written = write_refusal(writer, Refusal::Full);
-        let _left = write_left(alloc, writer, text, former);
-    }
-}
-
-/// Returns the text of the next boot, after one with `text` for which `found` was found, and `text` if the next one is
-/// another. A refusal is told in the log, if there is one, and changes nothing.
+/// Returns the text of the next boot, after one with `text` for which `found` was found. A refusal is told in the log,
+/// if there is one, and changes nothing.
 fn next_text<W: Write>(
     alloc: Global,
     text: Vec<u8>,
@@ -124,24 +88,23 @@ fn next_text<W: Write>(
     serving: &Serving<'_>,
     salt: &Salt,
     writer: &mut W,
-) -> (Vec<u8>, Option<Vec<u8>>)
-    ensures next { IsNextOf serving.now.settings salt.now text.items found result.0.items
-        (option_map (λ text. text.items) result.1) }
+) -> Vec<u8>
+    ensures next { IsNextOf serving.now.settings salt.now text.items found result.items }
     ensures unlogged { serving.now.is_logged ≡ false → writer.new ≡ writer.old }
 {
     match found {
         Some(Found::Text(other)) => match check_text(alloc, &other, serving.settings, salt) {
-            Ok(()) => (other, Some(text)),
+            Ok(()) => other,
             Err(refusal) => {
                 tell_refusal(serving.is_logged, refusal, writer);
-                (text, None)
+                text
             }
         },
         Some(Found::Unread(refusal)) => {
             tell_refusal(serving.is_logged, refusal, writer);
-            (text, None)
+            text
         }
-        None => (text, None),
+        None => text,
     }
 }
 
@@ -167,12 +130,7 @@ impl<'a> Site<'_, 'a> {
     {
         let (alloc, rt) = (self.alloc, self.rt);
         let moment = present_moment(rt)?;
-        let Boot {
-            text,
-            taken,
-            turns,
-            ..
-        } = boot;
+        let Boot { text, taken, turns } = boot;
         let Ok(own) = serving.again(alloc, turns) else {
             return Err(Fault::Database(oathd_database::Fault::Memory));
         };
@@ -193,53 +151,9 @@ impl<'a> Site<'_, 'a> {
             log,
         )?;
         let (left, found, taken) = watch.end();
-        let (text, former) = next_text(alloc, text, found, serving, &cluster.salt, log);
-        Ok(Boot {
-            text,
-            taken,
-            former,
-            turns: left.min(turns),
-        })
-    }
-
-    /// Serves a node in a later boot, as [`Site::serve_boot`] does. If the store has no room for its new tokens, the
-    /// node is served with the rows that the text of the boot before has too: what is removed is out.
-    fn serve_next<O: Write>(
-        &self,
-        cluster: &NamedCluster,
-        serving: &Serving<'_>,
-        boot: Boot,
-        socket: &mut KeptSocket,
-        log: &mut O,
-    ) -> Result<Boot, Fault<'a>>
-        requires { boot.turns < 2 ^ 54 }
-        ensures boot { IfOk result (⟦<Boot as Later>⟧.later serving.now cluster.now boot) }
-        ensures fewer { IfOk result (λ next. (boot.turns ≡ 0) ⊎ (next.turns < boot.turns)) }
-        ensures unlogged { serving.now.is_logged ≡ false → log.new ≡ log.old }
-    {
-        let Boot {
-            text,
-            taken,
-            former,
-            turns,
-        } = boot;
-        let Ok(copy) = Vec::from_slice(self.alloc, &text) else {
-            return Err(Fault::Database(oathd_database::Fault::Memory));
-        };
-        let boot = Boot::with_turns(text, taken, turns);
-        let served = self.serve_boot(Unknown, cluster, serving, boot, socket, log);
-        if !is_full(&served) {
-            return served;
-        }
-        let Some(former) = former else {
-            return served;
-        };
-        tell_full(self.alloc, serving.is_logged, &copy, &former, log);
-        let Ok(kept) = kept_rows(self.alloc, &copy, &former) else {
-            return Err(Fault::Database(oathd_database::Fault::Memory));
-        };
-        let boot = Boot::with_turns(kept, taken, turns);
-        self.serve_boot(Unknown, cluster, serving, boot, socket, log)
+        let text = next_text(alloc, text, found, serving, &cluster.salt, log);
+        let turns = left.min(turns);
+        Ok(Boot { text, taken, turns })
     }
 
     /// Refuses to open the store again after a file of it was removed or replaced.
@@ -270,12 +184,12 @@ impl<'a> Site<'_, 'a> {
         let text = users_text(self.alloc, self.rt, self.users, serving.settings, moment)?;
         let mut socket = KeptSocket::new();
         let turns = serving.turns;
-        let first = Boot::with_turns(text, taken, turns);
+        let first = Boot { text, taken, turns };
         let standing = Standing::at(self.rt, self.database);
         let mut boot = self.serve_boot(start, cluster, &serving, first, &mut socket, log)?;
         while boot.turns > 0 {
             self.check_standing(standing)?;
-            boot = self.serve_next(cluster, &serving, boot, &mut socket, log)?;
+            boot = self.serve_boot(Unknown, cluster, &serving, boot, &mut socket, log)?;
         }
         Ok(())
     }

@@ -1,8 +1,8 @@
--- What to do about a cluster file that gives names, or none.
+-- What to do about a cluster file that gives names or none, and about the files of a store that gets names.
 use Rattle.oathd_causes.specs.declared.roster.NamesAdvice.{NamesAdvice}
-use Rattle.oathd_causes.specs.declared.roster.NamesAdvice.TheVariants.{Begin, GiveNames, GiveSince, GiveNamesToReload}
+use Rattle.oathd_causes.specs.declared.roster.NamesAdvice.TheVariants.{Begin, GiveNames, GiveSince, GiveNamesToReload, GiveMembersWere, KeepMembers, KeepRows}
 use Rattle.oathd_causes.specs.declared.roster.NamesFault.{NamesFault}
-use Rattle.oathd_causes.specs.declared.roster.NamesFault.TheVariants.{PlainInit, NoNames, NoSince, PlainReload}
+use Rattle.oathd_causes.specs.declared.roster.NamesFault.TheVariants.{PlainInit, NoNames, NoSince, PlainReload, NoMembersWere, OtherMembers, OtherKind}
 
 -- what to do about a fault of names
 abbrev pub names_advice : NamesFault → NamesAdvice
@@ -10,3 +10,6 @@ names_advice PlainInit = Begin
 names_advice NoNames = GiveNames
 names_advice NoSince = GiveSince
 names_advice PlainReload = GiveNamesToReload
+names_advice NoMembersWere = GiveMembersWere
+names_advice (OtherMembers were members) = KeepMembers were members
+names_advice (OtherKind row) = KeepRows row

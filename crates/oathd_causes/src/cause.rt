@@ -55,7 +55,7 @@ pub enum Cause<'a> {
     Address(SocketAddrV4),
     #[error("{0}: {1}")]
     Socket(SocketAddrV4, SocketCause),
-    /// What to do about a cluster file that gives names, or none.
+    /// What to do about a cluster file that gives names or none, or about a users file.
     #[error("{0}: {1}")]
     Names(&'a str, NamesAdvice),
     #[error("{0}: its token has no row in the store: start the node with it first, or take the last file")]

@@ -96,4 +96,6 @@ pub fn names_are_worked()
     ensures faults { map names_advice (NamesFault.PlainInit ∷ NamesFault.NoNames ∷ NamesFault.NoSince
         ∷ NamesFault.PlainReload ∷ [])
         ≡ NamesAdvice.Begin ∷ NamesAdvice.GiveNames ∷ NamesAdvice.GiveSince ∷ NamesAdvice.GiveNamesToReload ∷ [] }
+    ensures migrate { map names_advice (NamesFault.NoMembersWere ∷ NamesFault.OtherMembers 1 3 ∷ NamesFault.OtherKind 2
+        ∷ []) ≡ NamesAdvice.GiveMembersWere ∷ NamesAdvice.KeepMembers 1 3 ∷ NamesAdvice.KeepRows 2 ∷ [] }
 {}

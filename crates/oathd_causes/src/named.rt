@@ -42,7 +42,7 @@ pub enum StoreCause {
     #[error("the store of another cluster: its life, its names or its {0} members differ: mend the file or the path")]
     OtherCluster(u64),
     /// The store has no room for the new tokens.
-    #[error("at most 10000 rows, retired ones too: take the new tokens out of the users file, and the others go on")]
+    #[error("at most 65536 rows, retired ones too: take the new tokens out of the users file, and the others go on")]
     Full,
     /// The store has a version that this program doesn't know.
     #[error("a store of version {0}: use the oathd that made it, or a newer one")]

@@ -86,7 +86,7 @@ impl<'a> Names<'a> {
             Action::Named { node, act, .. } => Names {
                 node: Some(*node),
                 is_new: matches!(act, NamedAct::Begin),
-                is_naming: matches!(act, NamedAct::Migrate),
+                is_naming: matches!(act, NamedAct::Migrate { .. }),
                 ..self
             },
         }

@@ -15,7 +15,7 @@ use thiserror::Error;
 const SAME_NAME_ADVICE: &str =
     "the token in that row has the name of an earlier one: give its user another secret";
 
-/// A fault of a cluster file that gives names, or none, for a command over a store.
+/// A fault of a command over a store by names: in its words, its cluster file or its users file.
 #[derive(Clone, Copy, Debug, PartialEq, Eq, Error)]
 pub enum NamesFault {
     /// The file gives names, and the command creates a store without saying whether the cluster has served.
@@ -30,6 +30,15 @@ pub enum NamesFault {
     /// The file gives no names, and the node is to take its users file again when it changes.
     #[error("cluster: NoNames")]
     PlainReload,
+    /// The file gives names, and the command gives the tokens names without saying how many members the cluster had.
+    #[error("cluster: NoMembersWere")]
+    NoMembersWere,
+    /// The number of members that the cluster had, and the other number of members that the file has.
+    #[error("cluster: OtherMembers")]
+    OtherMembers(u8, u8),
+    /// The store's row with this number, from 1, is not of the kind of its token in the users file.
+    #[error("users: OtherKind {0}")]
+    OtherKind(u32),
 }
 
 /// What to do about such a fault.
@@ -43,6 +52,14 @@ pub enum NamesAdvice {
     GiveSince,
     #[error("--reload is for stores by names: give names WORD in it, or leave --reload out")]
     GiveNamesToReload,
+    #[error("it gives names: say by --members-were how many members the cluster had until now")]
+    GiveMembersWere,
+    /// The number of members that the cluster had, and the number of members in the file.
+    #[error("it has {1} members, until now {0}: votes count among {0} alone. Keep {0}; change it later by init --anew")]
+    KeepMembers(u8, u8),
+    /// The number of the row.
+    #[error("row {0} is of another kind than the store's row {0}: give the file with which it was made, in its order")]
+    KeepRows(u32),
 }
 
 /// Returns what to do about a fault of names.
@@ -54,12 +71,19 @@ pub fn names_advice(fault: NamesFault) -> NamesAdvice
         NamesFault::NoNames => NamesAdvice::GiveNames,
         NamesFault::NoSince => NamesAdvice::GiveSince,
         NamesFault::PlainReload => NamesAdvice::GiveNamesToReload,
+        NamesFault::NoMembersWere => NamesAdvice::GiveMembersWere,
+        NamesFault::OtherMembers(were, members) => NamesAdvice::KeepMembers(were, members),
+        NamesFault::OtherKind(row) => NamesAdvice::KeepRows(row),
     }
 }
 
-/// Returns the cause of a fault of the names in the cluster file that the words name, or None if they name none.
+/// Returns the cause of a fault of names, with the path of the file that has it, or None if the words name none.
 pub fn names_cause(names: Names<'_>, fault: NamesFault) -> Option<Cause<'_>> {
-    Some(Cause::Names(names.cluster?, names_advice(fault)))
+    let path = match fault {
+        NamesFault::OtherKind(_) => names.users,
+        _ => names.cluster?,
+    };
+    Some(Cause::Names(path, names_advice(fault)))
 }
 
 /// Returns the cause of a fault of a command over a store by names, and of no other one.

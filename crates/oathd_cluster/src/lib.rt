@@ -24,8 +24,6 @@ mod line;
 mod rounds;
 mod run;
 mod sockets;
-#[cfg(test)]
-mod tests;
 
 pub use fault::Fault;
 pub use laws::{cluster_lines_are_worked, clusters_can_be_broken, faults_are_worked};

@@ -14,8 +14,8 @@ pub trait Stop {
     // votes, and of the answer.
     ghost answers: { Self → ℕ → Bool → Bool → Type 0 } = { λ _ _ _ _. ⊤ };
 
-    /// Returns whether the turns end after this batch, of which `left` are left. `is_waiting` says whether a client's line
-    /// waits for votes.
+    /// Returns whether the turns end after this batch, of which `left` are left. `is_waiting` says whether a client's
+    /// line waits for votes.
     fn stops(&mut self, is_waiting: bool, left: u64) -> bool
         ensures { answers self.new left is_waiting result };
 }

@@ -190,7 +190,8 @@ pub fn write_made<S: FloorStore, W: Write>(
     writer.flush().map_err(|_| Fault::CannotWrite)
 }
 
-/// Writes what a new store is, as [`write_store`] does, and that its time tokens are accepted from the moment on. Flushes.
+/// Writes what a new store is, as [`write_store`] does, and that its time tokens are accepted from the moment on.
+/// Flushes.
 ///
 /// The tokens of `book` have new secrets. A line follows for each kind of time token among them, with the clock's time
 /// in UTC.

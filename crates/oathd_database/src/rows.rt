@@ -58,6 +58,8 @@ pub(crate) fn write_tokens<T: RowText, S: FloorStore, W: Write>(
         (W.contents writer.new) (rows_text T.text_of book.now (S.held store.now).content.rows)) }
     ensures fault { IfErr result (IsOutputFault (S.held store.now).fault) }
 {
+    // For the proof: a book states its limit when it returns its number of tokens.
+    let _tokens = book.len();
     for token in 0..store.tokens() {
         let id = TokenId::new(token).unwrap();
         write_token::<T, S, W>(book, store, writer, id)?;

@@ -1,5 +1,5 @@
 -- A store gets names, or does not.
-use Rattle.std.proofs.Common.{◌≡◌, ℕ, List, Option, IfSome, length, subst}
+use Rattle.std.proofs.Common.{◌≡◌, ℕ, List, Option, None, IfSome, length, refl, subst}
 use Rattle.std.specs.Prelude.{Result, Ok}
 use Rattle.std.proofs.lemmas.Option.{IfSome_then}
 use Rattle.sqlite.specs.Store.{Ghosts}
@@ -7,6 +7,8 @@ use Rattle.sqlite.specs.Held as sql
 use Rattle.sqlite.specs.State.{HasCleanDisk}
 use Rattle.otp_core.specs.Limits.{Limits, default_limits}
 use Rattle.token_file.specs.Credential.{Credential}
+use Rattle.floor_sql.specs.Calls.{IsOpened}
+use Rattle.floor_sql.specs.Held.{SqlHeld}
 use Rattle.floor_sql.specs.Shown.{IsLeft}
 use Rattle.floor_sql.specs.Steps.{Transacts}
 use Rattle.floor_sql.specs.declared.read.Refusal.{Refusal}
@@ -23,7 +25,10 @@ use Rattle.oathd_roster.specs.Users.{IsUnnamed as IsUnread}
 use Rattle.oathd_roster.specs.declared.cluster.NamedCluster.{NamedCluster}
 use Rattle.oathd_roster.specs.declared.fault.RosterFault.{RosterFault}
 use Rattle.oathd_roster.specs.declared.fault.RosterFault.TheVariants.{Command, SameName, AnotherCluster, Full}
+use Rattle.oathd_floors.specs.Kinds.{IsOfOtherKind, first_other}
 use Rattle.oathd_floors.specs.Named.{HasNamed, IsNamed, IsUnnamed}
+use Rattle.oathd_floors.specs.declared.fault.NamingFault.{NamingFault}
+use Rattle.oathd_floors.specs.declared.fault.NamingFault.TheVariants.{Roster, OtherKind}
 
 -- the tables got names
 pub named_so : {S : Type 0} (g : Ghosts S) (node : ℕ) (entries : List Entry) (own : BondRecord) (old new : sql.Held S) (result : Result Unit Refusal)
@@ -39,9 +44,9 @@ pub imported_default : (limits : Limits) (book : List Credential) (next : List �
     → IfSome a (IsImported limits 0 16777216 book next) → IfSome a (IsImported default_limits 0 16777216 book next)
 imported_default limits book next a is h = subst (λ (l : Limits). IfSome a (IsImported l 0 16777216 book next)) is h
 
-module _ (cluster : NamedCluster) where
+module _ {S : Type 0} (g : Ghosts S) (finds : sql.Held S → Type 0) (cluster : NamedCluster) (node : ℕ) where
   unread_at : (fault : RosterFault) (text : List ℕ) → IsUnread cluster.salt default_limits 0 16777216 fault text
-      → IsUnnamed cluster default_limits 16777216 fault text
+      → IsUnnamed g finds cluster default_limits 16777216 node (Roster fault) text
   unread_at (Command Memory) text h = tt
   unread_at (Command CannotWrite) text h = h
   unread_at (Command NoClock) text h = h
@@ -54,13 +59,13 @@ module _ (cluster : NamedCluster) where
 
   -- the users file is not imported, or has no names
   pub unread_unnamed : (limits : Limits) (a : Option (List ℕ)) (fault : RosterFault) → limits ≡ default_limits
-      → IfSome a (IsUnread cluster.salt limits 0 16777216 fault) → IfSome a (IsUnnamed cluster default_limits 16777216 fault)
+      → IfSome a (IsUnread cluster.salt limits 0 16777216 fault) → IfSome a (IsUnnamed g finds cluster default_limits 16777216 node (Roster fault))
   unread_unnamed limits a fault is h =
       IfSome_then a (subst (λ (l : Limits). IfSome a (IsUnread cluster.salt l 0 16777216 fault)) is h) (λ text i. unread_at fault text i)
 
   module _ (book : List Credential) (next : List ℕ) where
     fails_at : (fault : Fault) (text : List ℕ) → IsStoreFault fault → IsImported default_limits 0 16777216 book next text
-        → IsUnnamed cluster default_limits 16777216 (Command fault) text
+        → IsUnnamed g finds cluster default_limits 16777216 node (Roster (Command fault)) text
     fails_at Memory text is i = absurd is
     fails_at CannotWrite text is i = absurd is
     fails_at NoClock text is i = absurd is
@@ -70,17 +75,39 @@ module _ (cluster : NamedCluster) where
 
     -- the store fails
     pub store_unnamed : (a : Option (List ℕ)) (fault : Fault) → IsStoreFault fault → IfSome a (IsImported default_limits 0 16777216 book next)
-        → IfSome a (IsUnnamed cluster default_limits 16777216 (Command fault))
+        → IfSome a (IsUnnamed g finds cluster default_limits 16777216 node (Roster (Command fault)))
     store_unnamed a fault is h = IfSome_then a h (λ text i. fails_at fault text is i)
 
--- the store of a users file gets names
-pub has_named : {S : Type 0} (g : Ghosts S) (finds : sql.Held S → Type 0) (cluster : NamedCluster) (node : ℕ) (book : List Credential) (next : List ℕ)
-    (a : Option (List ℕ)) (conn new : sql.Held S) (entries : List Entry) → entries ≡ entries_of cluster.salt book
-    → (HasCleanDisk (sql.state g conn) → finds conn) → IsNamed g node entries cluster.bond conn new
-    → IfSome a (IsImported default_limits 0 16777216 book next) → IfSome a (HasNamed g finds cluster default_limits 16777216 node new)
-has_named g finds cluster node book next a conn new entries same found named h = IfSome_then a h (λ text i. record {
-  import = record { book = book; floors = next; imported = i };
-  conn = conn;
-  found = found;
-  named = subst (λ (l : List Entry). IsNamed g node l cluster.bond conn new) same named;
-})
+    module _ (conn : sql.Held S) (store : SqlHeld S) (found : HasCleanDisk (sql.state g conn) → finds conn) (opened : IsOpened g conn node (length book) store)
+      where
+        other_at : (fault : NamingFault) (text : List ℕ) → IsOfOtherKind (HasCleanDisk (sql.state g store.conn)) book store.mirror.rows fault
+            → IsImported default_limits 0 16777216 book next text → IsUnnamed g finds cluster default_limits 16777216 node fault text
+        other_at (Roster (Command fault)) text is i = fails_at fault text is i
+        other_at (Roster (SameName row)) text is i = absurd is
+        other_at (Roster AnotherCluster) text is i = absurd is
+        other_at (Roster Full) text is i = absurd is
+        other_at (OtherKind row) text is i = record {
+          import = record { book = book; floors = next; imported = i };
+          store = store;
+          opened = record { conn = conn; found = found; node = node; is_given = refl; opened = opened };
+          other = is;
+        }
+
+        -- a row is of another kind, or the store fails
+        pub other_unnamed : (a : Option (List ℕ)) (fault : NamingFault) → IsOfOtherKind (HasCleanDisk (sql.state g store.conn)) book store.mirror.rows fault
+            → IfSome a (IsImported default_limits 0 16777216 book next) → IfSome a (IsUnnamed g finds cluster default_limits 16777216 node fault)
+        other_unnamed a fault is h = IfSome_then a h (λ text i. other_at fault text is i)
+
+        -- the store of a users file gets names
+        pub has_named : (a : Option (List ℕ)) (closed new : sql.Held S) (entries : List Entry) → entries ≡ entries_of cluster.salt book
+            → (HasCleanDisk (sql.state g store.conn) → first_other book store.mirror.rows ≡ None) → closed ≡ store.conn
+            → IsNamed g node entries cluster.bond closed new → IfSome a (IsImported default_limits 0 16777216 book next)
+            → IfSome a (HasNamed g finds cluster default_limits 16777216 node new)
+        has_named a closed new entries same own is named h = IfSome_then a h (λ text i. record {
+          import = record { book = book; floors = next; imported = i };
+          store = store;
+          opened = record { conn = conn; found = found; node = node; is_given = refl; opened = opened };
+          own = own;
+          named = subst (λ (c : sql.Held S). IsNamed g node (entries_of cluster.salt book) cluster.bond c new) is
+              (subst (λ (l : List Entry). IsNamed g node l cluster.bond closed new) same named);
+        })

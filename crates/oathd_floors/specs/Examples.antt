@@ -58,6 +58,10 @@ file_with rows = record { head = own_head 9; rows = rows; heard = [] }
 abbrev pub alone : NamedFloorsRecord
 alone = record { head = record (own_head 9) { node = 1; members = 1 }; rows = []; heard = [] }
 
+-- the same with the given rows
+abbrev pub alone_with : List NamedFloor → NamedFloorsRecord
+alone_with rows = record alone { rows = rows }
+
 -- a fault at a line
 abbrev pub at_line : ℕ → LineFault → FloorsFault
 at_line line kind = record { line = line; kind = kind }

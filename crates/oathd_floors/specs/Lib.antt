@@ -1,6 +1,7 @@
 pub mod Examples
 pub mod Fault
 pub mod Files
+pub mod Kinds
 pub mod Levelled
 pub mod Named
 pub mod Remade

@@ -87,7 +87,7 @@ abbrev pub IsNotMadeAgain : List NamedFloorsRecord → List Entry → RosterFaul
 IsNotMadeAgain files entries (Command fault) = IsStoreFault fault
 IsNotMadeAgain files entries (SameName row) = ⊥
 IsNotMadeAgain files entries AnotherCluster = ⊥
-IsNotMadeAgain files entries Full = 10000 < length (remade_entries (gathered_rows files) entries)
+IsNotMadeAgain files entries Full = 65536 < length (remade_entries (gathered_rows files) entries)
 
 -- The users file is imported, and the texts are floors files of the cluster that together are sufficient.
 pub record HasGathered (cluster : NamedCluster) (key : List ℕ) (limits : Limits) (moment longest node : ℕ)
@@ -100,7 +100,7 @@ pub record HasGathered (cluster : NamedCluster) (key : List ℕ) (limits : Limit
 pub record IsTooFull (cluster : NamedCluster) (key : List ℕ) (limits : Limits) (moment longest node : ℕ)
     (former : Former) (text : List ℕ) : Type 0 where
   pub has : HasGathered cluster key limits moment longest node former text
-  pub full : 10000 < length (remade_entries (gathered_rows has.files) (entries_of cluster.salt has.import.book))
+  pub full : 65536 < length (remade_entries (gathered_rows has.files) (entries_of cluster.salt has.import.book))
 
 -- ---- the store
 

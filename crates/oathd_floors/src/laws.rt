@@ -1,10 +1,11 @@
-ghost use Rattle.std.specs.Prelude.{◌≡◌, ℕ, List, [], ◌∷◌, None, Some, Ok, Err, codes, false, map, true, replicate};
+ghost use Rattle.std.specs.Prelude.{◌≡◌, ℕ, List, [], ◌∷◌, None, Some, Ok, Err, codes, false, map, true, replicate, pos, negsuc};
 ghost use Rattle.floors_file.specs.Named.{NamedFloorsRecord};
 ghost use Rattle.floors_file.specs.NamedExamples.{named_row};
 ghost use Rattle.floors_file.specs.declared.fault.LineFault.TheVariants as lines;
 ghost use Rattle.floors_file.specs.declared.gathered.FileFault.TheVariants.{Cluster};
 ghost use Rattle.floors_file.specs.declared.gathered.FilesFault.TheVariants.{File, NotLost};
 ghost use Rattle.floor_sql.specs.Broken.{small_content, tables_at};
+ghost use Rattle.floor_store.specs.Content.{accepted_row, opening_row};
 ghost use Rattle.floor_store.specs.declared.fault.StoreFault.TheVariants.{Disk, Unusable};
 ghost use Rattle.named_store.specs.declared.fault.LookFault.TheVariants as look;
 ghost use Rattle.named_store.specs.declared.fault.NamedFault.TheVariants as named;
@@ -13,16 +14,20 @@ ghost use Rattle.oathd_database.specs.declared.fault.Fault.TheVariants.{CannotWr
 ghost use Rattle.oathd_floors.specs.Examples.{at_line, file_with, heads, head_of, named_store, one_entry, one_named, own_head, small_cluster, taking_at, told_text};
 ghost use Rattle.oathd_floors.specs.Fault.{floors_status};
 ghost use Rattle.oathd_floors.specs.Files.{AreTaken, IsUntaken, TakingRecord, file_of, files_after, is_kin, is_memory_of, refusal_of, taken_of};
+ghost use Rattle.oathd_floors.specs.Kinds.{IsOfOtherKind, first_other, is_of_kind, is_of_period};
 ghost use Rattle.oathd_floors.specs.Levelled.{HasLevelled, IsNotLevelled};
-ghost use Rattle.oathd_floors.specs.Named.{HasNamed, IsUnnamed};
+ghost use Rattle.oathd_floors.specs.Named.{HasNamed, HasOtherKind, IsUnnamed};
 ghost use Rattle.oathd_floors.specs.Rows.{HasRows, IsNotRead, IsUnbound, rows_fault_of};
 ghost use Rattle.oathd_floors.specs.Told.{EndsTold, HasTold, told_file};
 ghost use Rattle.oathd_floors.specs.declared.fault.NamedFloorsFault.{NamedFloorsFault};
 ghost use Rattle.oathd_floors.specs.declared.fault.NamedFloorsFault.TheVariants.{Roster, Floors, Ahead, Files};
+ghost use Rattle.oathd_floors.specs.declared.fault.NamingFault.TheVariants as naming;
 ghost use Rattle.oathd_roster.specs.declared.fault.RosterFault.TheVariants.{AnotherCluster, Command, Full, SameName};
 ghost use Rattle.otp_core.specs.Limits.{default_limits};
 ghost use Rattle.roster_sql.specs.Examples.{entry_of, first_content, other_bond, small_bond};
+ghost use Rattle.token_file.specs.Examples.{event_token, time_token};
 ghost use Rattle.token_file.specs.declared.fault.LineFault.TheVariants.{MissingField};
+ghost use Rattle.token_file.specs.declared.token.Kind.TheVariants.{Event, Time30, Time60};
 
 /// Worked cases. The exit status for each fault.
 pub fn faults_are_worked()
@@ -171,6 +176,34 @@ pub fn levels_can_be_broken()
     ensures none { IsNotLevelled fallen shows_any (taking_at false) [] (Ahead 1) → ⊥ }
 {}
 
+/// Worked cases. A row tells by its drift that it is not of events, and by its floor that it is not of time steps.
+pub fn kinds_are_worked()
+    ensures events { map (λ drift. is_of_kind Event (accepted_row drift (opening_row 7)))
+        (pos 0 ∷ pos 1 ∷ negsuc 0 ∷ []) ≡ true ∷ false ∷ false ∷ [] }
+    ensures counters { map (λ kind. is_of_kind kind (opening_row 7)) (Event ∷ Time30 ∷ Time60 ∷ [])
+        ≡ true ∷ false ∷ false ∷ [] }
+    ensures steps_of_30 { map (λ next. is_of_kind Time30 (opening_row next)) (35791394 ∷ 35791395 ∷ [])
+        ≡ false ∷ true ∷ [] }
+    ensures steps_of_60 { map (λ next. is_of_kind Time60 (opening_row next)) (17895697 ∷ 17895698 ∷ [])
+        ≡ false ∷ true ∷ [] }
+    ensures earliest { map (λ next. is_of_period (Some 32) (opening_row next)) (33554431 ∷ 33554432 ∷ [])
+        ≡ false ∷ true ∷ [] }
+
+    // the floors of 2026-11-29 of both kinds, each read as the other one
+    ensures read_as_30 { is_of_kind Time30 (opening_row 29932560) ≡ false }
+    ensures read_as_60 { is_of_kind Time60 (opening_row 59865120) ≡ true }
+    ensures drifted { is_of_kind Time30 (accepted_row (pos 1) (opening_row 59865120)) ≡ true }
+
+    ensures none { first_other (event_token (codes "a") ∷ time_token Time30 ∷ [])
+        (opening_row 7 ∷ opening_row 59865120 ∷ []) ≡ None }
+    ensures first { first_other (time_token Time30 ∷ event_token (codes "a") ∷ []) (opening_row 7
+        ∷ opening_row 59865120 ∷ []) ≡ Some 1 }
+    ensures last { first_other (event_token (codes "a") ∷ time_token Time60 ∷ time_token Time30 ∷ [])
+        (opening_row 7 ∷ opening_row 59865120 ∷ opening_row 29932560 ∷ []) ≡ Some 3 }
+    ensures no_rows { first_other [] [] ∷ first_other (time_token Time30 ∷ []) [] ∷ first_other [] (opening_row 7 ∷ [])
+        ∷ [] ≡ replicate 3 None }
+{}
+
 /// Counterexamples: each promise of a store whose tokens get names, or do not, fails for a minimal one.
 pub fn names_can_be_broken()
     ensures named { HasNamed fallen shows_any small_cluster default_limits 11 1 small_conn [] }
@@ -186,14 +219,30 @@ pub fn names_can_be_broken()
     ensures named_tables { HasNamed (still (tables_at 4 [])) shows_any small_cluster default_limits 11 1 small_conn []
         → ⊥ }
 
-    ensures memory { IsUnnamed small_cluster default_limits 6 (Command Memory) no_users }
-    ensures store { IsUnnamed small_cluster default_limits 6 (Command (Store Disk)) (codes "# none") }
-    ensures before_import { IsUnnamed small_cluster default_limits 6 (Command (Store Disk)) no_users → ⊥ }
-    ensures users { IsUnnamed small_cluster default_limits 6 (Command (users_fault 1 MissingField)) no_users }
-    ensures wrong_users { IsUnnamed small_cluster default_limits 6 (Command (users_fault 1 MissingField))
+    ensures other { HasOtherKind fallen shows_any default_limits 11 1 1 [] }
+    ensures other_import { HasOtherKind fallen shows_any default_limits 11 1 1 no_users → ⊥ }
+    ensures other_tokens { (users : List ℕ) → IsOfOne 0 11 users
+        → HasOtherKind (still (tables_at 4 [])) shows_any default_limits 11 1 1 users → ⊥ }
+    ensures other_row { HasOtherKind (still (tables_at 4 [])) shows_any default_limits 11 1 1 [] → ⊥ }
+
+    ensures memory { IsUnnamed fallen shows_any small_cluster default_limits 6 1 (naming.Roster (Command Memory))
+        no_users }
+    ensures store { IsUnnamed fallen shows_any small_cluster default_limits 6 1 (naming.Roster (Command (Store Disk)))
+        (codes "# none") }
+    ensures before_import { IsUnnamed fallen shows_any small_cluster default_limits 6 1
+        (naming.Roster (Command (Store Disk))) no_users → ⊥ }
+    ensures users { IsUnnamed fallen shows_any small_cluster default_limits 6 1
+        (naming.Roster (Command (users_fault 1 MissingField))) no_users }
+    ensures wrong_users { IsUnnamed fallen shows_any small_cluster default_limits 6 1
+        (naming.Roster (Command (users_fault 1 MissingField))) (codes "# none") → ⊥ }
+    ensures output { IsUnnamed fallen shows_any small_cluster default_limits 6 1 (naming.Roster (Command CannotWrite))
         (codes "# none") → ⊥ }
-    ensures output { IsUnnamed small_cluster default_limits 6 (Command CannotWrite) (codes "# none") → ⊥ }
-    ensures same_name { IsUnnamed small_cluster default_limits 6 (SameName 1) (codes "# none") → ⊥ }
-    ensures another { IsUnnamed small_cluster default_limits 6 AnotherCluster (codes "# none") → ⊥ }
-    ensures full { IsUnnamed small_cluster default_limits 6 Full (codes "# none") → ⊥ }
+    ensures same_name { IsUnnamed fallen shows_any small_cluster default_limits 6 1 (naming.Roster (SameName 1))
+        (codes "# none") → ⊥ }
+    ensures another { IsUnnamed fallen shows_any small_cluster default_limits 6 1 (naming.Roster AnotherCluster)
+        (codes "# none") → ⊥ }
+    ensures full { IsUnnamed fallen shows_any small_cluster default_limits 6 1 (naming.Roster Full) (codes "# none")
+        → ⊥ }
+    ensures unread_kind { IsUnnamed fallen shows_any small_cluster default_limits 6 1 (naming.OtherKind 1) no_users
+        → ⊥ }
 {}

@@ -8,6 +8,7 @@
 
 mod fault;
 mod files;
+mod kinds;
 mod laws;
 mod levelling;
 mod naming;
@@ -16,10 +17,12 @@ mod remaking;
 mod rows;
 mod telling;
 
-pub use fault::NamedFloorsFault;
+pub use fault::{NamedFloorsFault, NamingFault};
+pub use kinds::is_of_kind;
 pub use laws::{
-    faults_are_worked, files_are_worked, floors_can_be_broken, levels_can_be_broken,
-    names_can_be_broken, rows_can_be_broken, told_are_worked, told_can_be_broken,
+    faults_are_worked, files_are_worked, floors_can_be_broken, kinds_are_worked,
+    levels_can_be_broken, names_can_be_broken, rows_can_be_broken, told_are_worked,
+    told_can_be_broken,
 };
 pub use levelling::level_named_store;
 pub use naming::name_store;

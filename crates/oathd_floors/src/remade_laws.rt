@@ -1,14 +1,17 @@
-ghost use Rattle.std.specs.Prelude.{◌≡◌, ℕ, List, [], ◌∷◌, None, Some, Ok, Err, codes, true};
+ghost use Rattle.std.specs.Prelude.{◌≡◌, ℕ, List, [], ◌∷◌, None, Some, Ok, Err, codes, length, true};
 ghost use Rattle.std.specs.Global.{Vec};
 ghost use Rattle.floor_sql.specs.Broken.{small_content};
 ghost use Rattle.floor_store.specs.declared.fault.StoreFault.TheVariants.{Disk};
+ghost use Rattle.floors_file.specs.Named.{NamedFloorsRecord};
+ghost use Rattle.floors_file.specs.NamedGathered.{gathered_rows};
 ghost use Rattle.floors_file.specs.declared.gathered.FileFault.TheVariants.{Boot, Older};
 ghost use Rattle.floors_file.specs.declared.gathered.FilesFault.TheVariants.{File, NotLost, TooManyLost};
+ghost use Rattle.floors_file.specs.declared.named.NamedFloor.{NamedFloor};
 ghost use Rattle.oathd_database.specs.Broken.{fallen, lost_nodes, no_users, shows_any, shows_none, users_fault};
 ghost use Rattle.oathd_database.specs.Lost.{boot_at};
 ghost use Rattle.oathd_database.specs.declared.fault.Fault.TheVariants.{CannotWrite, Memory, NoClock, Socket, Store};
 ghost use Rattle.oathd_database.specs.Made.{store_line};
-ghost use Rattle.oathd_floors.specs.Examples.{IsKeptOf, IsNotRemadeOf, IsRemadeOf, alone, former_of, member, named_conn, named_store, none_named, none_seen, small_cluster, taking_at};
+ghost use Rattle.oathd_floors.specs.Examples.{IsKeptOf, IsNotRemadeOf, IsRemadeOf, alone, alone_with, former_of, member, named_conn, named_store, none_named, none_seen, small_cluster, taking_at};
 ghost use Rattle.oathd_floors.specs.Files.{file_of};
 ghost use Rattle.oathd_floors.specs.Remade.{HasFault, HasGathered, IsGathered, IsInsufficient, IsMadeAgain, IsNotMadeAgain, IsNotRemade, IsTooFull};
 ghost use Rattle.oathd_floors.specs.declared.fault.NamedFloorsFault.{NamedFloorsFault};
@@ -56,6 +59,14 @@ pub fn gatherings_can_be_broken()
     ensures has_files { HasGathered small_cluster (codes "key") default_limits 0 11 1 (former_of 8 None []) [] → ⊥ }
     ensures too_full { (text : Vec ℕ) → file_of (taking_at true) 1 text.items ≡ Ok alone
         → IsTooFull small_cluster (codes "key") default_limits 0 11 1 (former_of 8 None (text ∷ [])) [] → ⊥ }
+    ensures room { (text : Vec ℕ) (rows : List NamedFloor)
+        → file_of (taking_at true) 1 text.items ≡ Ok (alone_with rows)
+        → length (gathered_rows (alone_with rows ∷ [])) ≡ 65536
+        → IsTooFull small_cluster (codes "key") default_limits 0 11 1 (former_of 8 None (text ∷ [])) [] → ⊥ }
+    ensures no_room { (text : Vec ℕ) (rows : List NamedFloor)
+        → file_of (taking_at true) 1 text.items ≡ Ok (alone_with rows)
+        → length (gathered_rows (alone_with rows ∷ [])) ≡ 65537
+        → IsTooFull small_cluster (codes "key") default_limits 0 11 1 (former_of 8 None (text ∷ [])) [] }
 {}
 
 /// Counterexamples: each promise of a store that is made again, or is not, fails for a minimal one.
@@ -79,7 +90,11 @@ pub fn makings_can_be_broken()
     ensures memory { IsNotMadeAgain [] [] (Command Memory) → ⊥ }
     ensures same_name { IsNotMadeAgain [] [] (SameName 1) → ⊥ }
     ensures another { IsNotMadeAgain [] [] AnotherCluster → ⊥ }
-    ensures few { IsNotMadeAgain [] (entry_of 1 2 ∷ []) Full → ⊥ }
+    ensures few { IsNotMadeAgain [] (entry_of 1 2 ∷ entry_of 3 4 ∷ []) Full → ⊥ }
+    ensures room { (files : List NamedFloorsRecord) → length (gathered_rows files) ≡ 65536
+        → IsNotMadeAgain files [] Full → ⊥ }
+    ensures no_room { (files : List NamedFloorsRecord) → length (gathered_rows files) ≡ 65537
+        → IsNotMadeAgain files [] Full }
 {}
 
 /// Counterexamples: each promise of a replacement store whose line is written, or is not, fails for a minimal one.

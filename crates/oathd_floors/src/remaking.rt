@@ -140,7 +140,7 @@ fn make_seated<S: Alter + Drop>(
 /// - Returns `Floors` with the first text that is not such a floors file. The database is not opened.
 /// - Returns `Files` if a file is of another cluster, or the files are insufficient. The database is not opened.
 /// - Returns `Ahead` for a file that was read after the present time. The database is not opened.
-/// - Returns `Roster(Full)` if there are more than 10,000 rows. Nothing is created.
+/// - Returns `Roster(Full)` if there are more than 65,536 rows. Nothing is created.
 /// - Returns `Roster(Command(Store))` if the database has a table, or the store fails.
 /// - Returns `Roster(Command(CannotWrite))` if the output fails. The store was created and stays.
 pub fn remake_named_store<R: Read + Drop, S: Alter + Drop, D: Database<S>, W: Write>(

@@ -7,7 +7,8 @@ use floor_store::StoreFault;
 use floors_file::{FileFault, FilesFault, FloorsFault, LineFault};
 use oathd_database::{Database, Fault, init_store};
 use oathd_floors::{
-    Former, NamedFloorsFault, level_named_store, name_store, remake_named_store, tell_named_floors,
+    Former, NamedFloorsFault, NamingFault, level_named_store, name_store, remake_named_store,
+    tell_named_floors,
 };
 use oathd_roster::{NamedCluster, RosterFault, read_named_users};
 use otp_core::{Next, Settings};
@@ -26,7 +27,11 @@ const KEY: &[u8] = b"own-key-of-site-1";
 const USERS: &[u8] = b"HOTP/T30/8/SHA256 ann - 00FF\n\
     HOTP silver pw 3132333435363738393031323334353637383930\n";
 
-/// The same, and a token without a row.
+/// The same in another order.
+const SWAPPED: &[u8] = b"HOTP silver pw 3132333435363738393031323334353637383930\n\
+    HOTP/T30/8/SHA256 ann - 00FF\n";
+
+/// The same as `USERS`, and a token without a row.
 const WITH_NEW: &[u8] = b"HOTP/T30/8/SHA256 ann - 00FF\n\
     HOTP bob - 0102\n\
     HOTP silver pw 3132333435363738393031323334353637383930\n";
@@ -76,9 +81,9 @@ const ANEW: &[u8] = b"floors 2 1 3 104857600 95 4 names-of-site-1 2\n\
 
 /// The floors file of a store of version 2 whose tokens got names.
 const NAMED: &[u8] = b"floors 2 3 3 0 95 2 names-of-site-1 1\n\
-    e2329dda198989c3be495e9bada26a6c ed76c9713d62b9bfbbb5e80400be4737 2\n\
+    e2329dda198989c3be495e9bada26a6c ed76c9713d62b9bfbbb5e80400be4737 40000002\n\
     5cb0460e92720059b321966bf3ace45e 4b1d67ac07a043cad8bcc7ec0a00202b 0\n\
-    mac 588c0698a01705dc3cefa4e24f7bf33c76522d567b5e7dad5d8835ce07bd0d6e\n";
+    mac 4f989faa949a1a6626965c682dc0234755aacdc54f8cf4730c441d44f7e71378\n";
 
 /// A database in memory.
 #[derive(Drop)]
@@ -224,12 +229,20 @@ fn remade(
     Ok((written, text))
 }
 
-/// Returns the floors file of a store of version 2 whose tokens got names.
-fn named(alloc: Global, cluster: &NamedCluster) -> Result<Vec<u8>, RosterFault> {
+/// Returns the floors file of a store of version 2 of 2008 whose tokens got names by `users`.
+fn named(alloc: Global, users: &[u8], cluster: &NamedCluster) -> Result<Vec<u8>, NamingFault> {
     let database = empty(alloc)?;
-    let store = init_store(alloc, USERS, Settings::default(), 0, 3, database)?;
-    let conn = name_store(alloc, USERS, 3, cluster, closed(store))?;
-    told(alloc, 3, cluster, InMemory(conn))
+    let store = init_store(
+        alloc,
+        USERS,
+        Settings::default(),
+        1_200_000_000,
+        3,
+        database,
+    )?;
+    let conn = name_store(alloc, users, 3, cluster, closed(store))?;
+    let text = told(alloc, 3, cluster, InMemory(conn))?;
+    Ok(text)
 }
 
 #[test]
@@ -314,8 +327,12 @@ fn stores_are_made_again(rt: HostRuntime) -> Result<(), Fail> {
 fn tokens_get_names(rt: HostRuntime) -> Result<(), Fail> {
     let alloc = rt.alloc();
     let own = cluster_in(b"1").ok_or("range")?;
-    let text = named(alloc, &own)?;
+    let text = named(alloc, USERS, &own)?;
     assert!(rt; text.as_slice() == NAMED);
+    let Err(fault) = named(alloc, SWAPPED, &own) else {
+        return Err(Fail::new("rows of other kinds"));
+    };
+    assert!(rt; format!(in alloc; "{fault}")?.as_str() == "users: OtherKind 2");
     Ok(())
 }
 

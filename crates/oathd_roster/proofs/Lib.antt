@@ -1,6 +1,7 @@
 mod EnrolmentLemmas
 mod UsersLemmas
 mod OpenedLemmas
+mod EnrolledLemmas
 mod BegunLemmas
 mod NamedLemmas
 mod FloorsLemmas

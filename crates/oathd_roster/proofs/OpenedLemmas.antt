@@ -1,12 +1,11 @@
 -- A store is opened by names, or is not.
-use Rattle.std.proofs.Common.{◌≡◌, ℕ, List, Option, Some, None, IfSome, length, subst}
+use Rattle.std.proofs.Common.{◌≡◌, ℕ, List, length, subst}
 use Rattle.sqlite.specs.Store.{Ghosts}
 use Rattle.sqlite.specs.Held as sql
 use Rattle.sqlite.specs.State.{HasCleanDisk}
 use Rattle.otp_core.specs.Limits.{Limits}
 use Rattle.token_file.specs.Credential.{Credential}
 use Rattle.floor_sql.specs.Held.{SqlHeld}
-use Rattle.floor_store.specs.declared.fault.StoreFault.{StoreFault}
 use Rattle.named_store.specs.Entries.{entries_of}
 use Rattle.named_store.specs.Opened.{AreCounts, EnrolsNames, HasSeated, IsCause, IsRefused as HandsBackNamed}
 use Rattle.named_store.specs.Seating.{AreDistinct}
@@ -19,13 +18,11 @@ use Rattle.oathd_database.specs.Commands.{IsRefused}
 use Rattle.oathd_database.specs.Users.{IsImported, IsUnread}
 use Rattle.oathd_database.specs.declared.fault.Fault.{Fault}
 use Rattle.oathd_database.specs.declared.fault.Fault.TheVariants.{Memory, CannotWrite, NoClock, Users, Store, Socket}
+use Rattle.oathd_roster.specs.Enrolled.{IsOpenedFor}
 use Rattle.oathd_roster.specs.Enrolment.{enrolment_floors}
 use Rattle.oathd_roster.specs.Fault.{named_fault_of}
-use Rattle.oathd_roster.specs.Opened.{HasOpenedNamed, IsKeptOut, IsNotOpened}
-use Rattle.oathd_roster.specs.Users.{IsUnnamed}
+use Rattle.oathd_roster.specs.Opened.{IsKeptOut, IsNotOpened}
 use Rattle.oathd_roster.specs.declared.cluster.NamedCluster.{NamedCluster}
-use Rattle.oathd_roster.specs.declared.fault.RosterFault.{RosterFault}
-use Rattle.oathd_roster.specs.declared.fault.RosterFault.TheVariants.{Command, SameName, AnotherCluster, Full}
 
 -- a users file that is not imported refuses a command
 pub refused_text : (limits : Limits) (moment longest : ℕ) (fault : Fault) (text : List ℕ)
@@ -38,77 +35,51 @@ refused_text limits moment longest (Store fault) text h = absurd h
 refused_text limits moment longest Socket text h = h
 
 module _ {S : Type 0} (g : Ghosts S) (finds : sql.Held S → Type 0) (cluster : NamedCluster) (limits : Limits) (moment : ℕ) where
-  module _ (longest node : ℕ) where
-    -- the users file is not imported, or has no names
-    pub unopened : (a : Option (List ℕ)) (fault : RosterFault) → IfSome a (IsUnnamed cluster.salt limits moment longest fault)
-        → IfSome a (IsNotOpened g finds cluster limits moment longest node fault)
-    unopened None fault h = tt
-    unopened (Some text) (Command fault) h = refused_text limits moment longest fault text h
-    unopened (Some text) (SameName row) h = h
-    unopened (Some text) AnotherCluster h = absurd h
-    unopened (Some text) Full h = absurd h
+  module _ (longest node : ℕ) (book : List Credential) (floors : List ℕ) where
+    turned_away : (fault : NamedFault) (conn left : sql.Held S) (text : List ℕ) → (HasCleanDisk (sql.state g conn) → finds conn)
+        → (HasCleanDisk (sql.state g left) → IsCause (sql.state g conn).now node (entries_of cluster.salt book) cluster.bond fault)
+        → HandsBackNamed g (EnrolsNames node (entries_of cluster.salt book) (enrolment_floors cluster limits moment book floors) cluster.bond) conn left
+        → IsImported limits moment longest book floors text → IsKeptOut g finds cluster limits moment longest node fault text
+    turned_away fault conn left text found cause kept h = record {
+      import = record { book = book; floors = floors; imported = h };
+      conn = conn;
+      found = found;
+      left = left;
+      cause = cause;
+      kept = kept;
+    }
 
-    -- the allocator refuses the memory
-    pub no_memory : (a : Option (List ℕ)) → IfSome a (IsNotOpened g finds cluster limits moment longest node (Command Memory))
-    no_memory None = tt
-    no_memory (Some text) = tt
+    refused_so : (fault : NamedFault) (conn left : sql.Held S) (text : List ℕ) → (HasCleanDisk (sql.state g conn) → finds conn)
+        → (HasCleanDisk (sql.state g left) → IsCause (sql.state g conn).now node (entries_of cluster.salt book) cluster.bond fault)
+        → HandsBackNamed g (EnrolsNames node (entries_of cluster.salt book) (enrolment_floors cluster limits moment book floors) cluster.bond) conn left
+        → IsImported limits moment longest book floors text → IsNotOpened g finds cluster limits moment longest node (named_fault_of fault) text
+    refused_so named.AnotherCluster conn left text found cause kept h = turned_away named.AnotherCluster conn left text found cause kept h
+    refused_so named.Full conn left text found cause kept h = turned_away named.Full conn left text found cause kept h
+    refused_so (named.Store fault) conn left text found cause kept h = record { book = book; floors = floors; imported = h }
 
-    module _ (book : List Credential) (floors : List ℕ) where
-      -- the store fails after the import
-      pub store_fails : (a : Option (List ℕ)) (fault : StoreFault) → IfSome a (IsImported limits moment longest book floors)
-          → IfSome a (IsNotOpened g finds cluster limits moment longest node (Command (Store fault)))
-      store_fails None fault h = tt
-      store_fails (Some text) fault h = record { book = book; floors = floors; imported = h }
+    -- the tables give the reason
+    pub kept_out : (fault : NamedFault) (names : List Entry) (given : List ℕ) (conn left : sql.Held S) (text : List ℕ)
+        → names ≡ entries_of cluster.salt book → given ≡ enrolment_floors cluster limits moment book floors
+        → (HasCleanDisk (sql.state g conn) → finds conn)
+        → (HasCleanDisk (sql.state g left) → IsCause (sql.state g conn).now node names cluster.bond fault)
+        → HandsBackNamed g (EnrolsNames node names given cluster.bond) conn left
+        → IsImported limits moment longest book floors text → IsNotOpened g finds cluster limits moment longest node (named_fault_of fault) text
+    kept_out fault names given conn left text same drifted found cause kept h =
+        refused_so fault conn left text found
+        (λ clean. subst (λ (l : List Entry). IsCause (sql.state g conn).now node l cluster.bond fault) same (cause clean))
+        (subst (λ (f : List ℕ). HandsBackNamed g (EnrolsNames node (entries_of cluster.salt book) f cluster.bond) conn left) drifted
+        (subst (λ (l : List Entry). HandsBackNamed g (EnrolsNames node l given cluster.bond) conn left) same kept)) h
 
-      turned_away : (fault : NamedFault) (conn left : sql.Held S) (text : List ℕ) → (HasCleanDisk (sql.state g conn) → finds conn)
-          → (HasCleanDisk (sql.state g left) → IsCause (sql.state g conn).now node (entries_of cluster.salt book) cluster.bond fault)
-          → HandsBackNamed g (EnrolsNames node (entries_of cluster.salt book) (enrolment_floors cluster limits moment book floors) cluster.bond) conn left
-          → IsImported limits moment longest book floors text → IsKeptOut g finds cluster limits moment longest node fault text
-      turned_away fault conn left text found cause kept h = record {
-        import = record { book = book; floors = floors; imported = h };
-        conn = conn;
-        found = found;
-        left = left;
-        cause = cause;
-        kept = kept;
-      }
-
-      refused_so : (a : Option (List ℕ)) (fault : NamedFault) (conn left : sql.Held S) → (HasCleanDisk (sql.state g conn) → finds conn)
-          → (HasCleanDisk (sql.state g left) → IsCause (sql.state g conn).now node (entries_of cluster.salt book) cluster.bond fault)
-          → HandsBackNamed g (EnrolsNames node (entries_of cluster.salt book) (enrolment_floors cluster limits moment book floors) cluster.bond) conn left
-          → IfSome a (IsImported limits moment longest book floors)
-          → IfSome a (IsNotOpened g finds cluster limits moment longest node (named_fault_of fault))
-      refused_so None fault conn left found cause kept h = tt
-      refused_so (Some text) named.AnotherCluster conn left found cause kept h = turned_away named.AnotherCluster conn left text found cause kept h
-      refused_so (Some text) named.Full conn left found cause kept h = turned_away named.Full conn left text found cause kept h
-      refused_so (Some text) (named.Store fault) conn left found cause kept h = record { book = book; floors = floors; imported = h }
-
-      -- the tables give the reason
-      pub kept_out : (a : Option (List ℕ)) (fault : NamedFault) (names : List Entry) (given : List ℕ) (conn left : sql.Held S)
-          → names ≡ entries_of cluster.salt book → given ≡ enrolment_floors cluster limits moment book floors
-          → (HasCleanDisk (sql.state g conn) → finds conn)
-          → (HasCleanDisk (sql.state g left) → IsCause (sql.state g conn).now node names cluster.bond fault)
-          → HandsBackNamed g (EnrolsNames node names given cluster.bond) conn left
-          → IfSome a (IsImported limits moment longest book floors)
-          → IfSome a (IsNotOpened g finds cluster limits moment longest node (named_fault_of fault))
-      kept_out a fault names given conn left same drifted found cause kept h =
-          refused_so a fault conn left found
-          (λ clean. subst (λ (l : List Entry). IsCause (sql.state g conn).now node l cluster.bond fault) same (cause clean))
-          (subst (λ (f : List ℕ). HandsBackNamed g (EnrolsNames node (entries_of cluster.salt book) f cluster.bond) conn left) drifted
-          (subst (λ (l : List Entry). HandsBackNamed g (EnrolsNames node l given cluster.bond) conn left) same kept)) h
-
+module _ {S : Type 0} (g : Ghosts S) (cluster : NamedCluster) (limits : Limits) (moment : ℕ) where
   -- the store is opened
-  pub opened_named : (node : ℕ) (book : List Credential) (floors : List ℕ) (names : List Entry) (given : List ℕ) (conn : sql.Held S)
+  pub opened_for : (node : ℕ) (book : List Credential) (floors : List ℕ) (names : List Entry) (given : List ℕ) (conn : sql.Held S)
       (store : SeatedRecord (SqlHeld S)) (counts : RowCounts)
       → names ≡ entries_of cluster.salt book → given ≡ enrolment_floors cluster limits moment book floors
-      → (HasCleanDisk (sql.state g conn) → finds conn)
       → HasSeated g conn node names given cluster.bond store
       → (HasCleanDisk (sql.state g store.inner.conn) → AreCounts (sql.state g conn).now node names cluster.bond counts)
       → length store.seats ≡ length book → AreDistinct (entries_of cluster.salt book)
-      → HasOpenedNamed g finds cluster limits moment node book floors store counts
-  opened_named node book floors names given conn store counts same drifted found seated counted each apart = record {
-    conn = conn;
-    found = found;
+      → IsOpenedFor g cluster limits moment conn node book floors store counts
+  opened_for node book floors names given conn store counts same drifted seated counted each apart = record {
     seated =
         subst (λ (f : List ℕ). HasSeated g conn node (entries_of cluster.salt book) f cluster.bond store) drifted
         (subst (λ (l : List Entry). HasSeated g conn node l given cluster.bond store) same seated);

@@ -1,6 +1,6 @@
 -- A users file is not imported, or two of its tokens have one name.
 use Rattle.std.proofs.Common.{◌≡◌, ◌<◌, ◌∙◌, ap, arith, ℕ, List, [], ◌∷◌, Option, Some, None, IfSome, length, map, refl, sym, subst}
-use Rattle.std.specs.Prelude.{Result, Ok, Err, IfErr, IsErrAnd}
+use Rattle.std.specs.Prelude.{Result, Ok, Err, IfErr, IfOk, IsErrAnd}
 use Rattle.std.proofs.lemmas.List.{get_or-map, length-map}
 use Rattle.otp_core.specs.Limits.{Limits}
 use Rattle.token_file.specs.Credential.{Credential}
@@ -21,6 +21,11 @@ use Rattle.oathd_roster.specs.declared.fault.RosterFault.TheVariants.{Command}
 pub err_is : {T E : Type 0} (r : Result T E) (x : E) (Q : E → Type 0) → IsErrAnd r (λ y. y ≡ x) → Q x → IfErr r Q
 err_is (Ok one) x Q h q = absurd h
 err_is (Err y) x Q h q = subst Q (sym h) q
+
+-- a call that failed has no value
+pub no_value : {T E : Type 0} (r : Result T E) (Q : E → Type 0) (P : T → Type 0) → IsErrAnd r Q → IfOk r P
+no_value (Ok one) Q P h = absurd h
+no_value (Err y) Q P h = tt
 
 module _ (salt : List ℕ) (limits : Limits) (moment longest : ℕ) where
   -- the users file is not imported

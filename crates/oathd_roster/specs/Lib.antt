@@ -1,4 +1,5 @@
 pub mod Begun
+pub mod Enrolled
 pub mod Enrolment
 pub mod Fault
 pub mod Log

@@ -32,6 +32,7 @@ use Rattle.oathd_database.specs.Setup.{AreEventsOf, setup_for}
 use Rattle.oathd_database.specs.Stretches.{ActsOf, ServesIn, operator_acts, unasked}
 use Rattle.oathd_database.specs.declared.fault.Fault.{Fault}
 use Rattle.oathd_database.specs.declared.serving.Serving.{Serving}
+use Rattle.oathd_roster.specs.Enrolled.{IsServedText}
 use Rattle.oathd_roster.specs.Opened.{HasOpenedNamed, IsNotOpened}
 use Rattle.oathd_roster.specs.declared.cluster.NamedCluster.{NamedCluster}
 use Rattle.oathd_roster.specs.declared.fault.RosterFault.{RosterFault}
@@ -152,3 +153,20 @@ EndsServingNamed g finds cluster moment serving AnotherCluster text =
     IsNotOpened g finds cluster serving.settings moment 16777216 serving.place.me AnotherCluster text
 EndsServingNamed g finds cluster moment serving Full text =
     IsNotOpened g finds cluster serving.settings moment 16777216 serving.place.me Full text
+
+-- ---- the rows
+
+module _ {S : Type 0} (g : Ghosts S) (finds : sql.Held S → Type 0) (cluster : NamedCluster) (moment : ℕ)
+    (serving : Serving) where
+  -- A node was served for the tokens of a users file, or of its rows that the store has if it has no room for the
+  -- others.
+  abbrev pub HasServedRows : (ℕ → Bool → Bool → Type 0) → Result Served Fault → List ℕ → Type 0
+  HasServedRows answers result text = (served : List ℕ)
+      × IsServedText g cluster serving.settings finds moment serving.place.me text served
+      × HasServedNamed g finds cluster moment serving answers result served
+
+  -- A command that serves for these tokens ends with the fault.
+  abbrev pub EndsServingRows : RosterFault → List ℕ → Type 0
+  EndsServingRows fault text = (served : List ℕ)
+      × IsServedText g cluster serving.settings finds moment serving.place.me text served
+      × EndsServingNamed g finds cluster moment serving fault served

@@ -10,7 +10,7 @@ ghost use Rattle.oathd_database.specs.Fault.{serve_end};
 ghost use Rattle.oathd_database.specs.Setup.{setup_behind};
 ghost use Rattle.oathd_database.specs.Stretches.{ServesIn, operator_acts, unasked};
 ghost use Rattle.oathd_roster.specs.Log.{roster_at};
-ghost use Rattle.oathd_roster.specs.Served.{EndsServingNamed, HasServedNamed, IsServedNamed, ServesNamed, packer_of, translator_of};
+ghost use Rattle.oathd_roster.specs.Served.{EndsServingRows, HasServedRows, IsServedNamed, ServesNamed, packer_of, translator_of};
 
 use crate::cluster::NamedCluster;
 use crate::fault::RosterFault;
@@ -26,6 +26,7 @@ use count_port::CountPort;
 use floor_port::{FloorPort, Membership};
 use floor_sql::SqlStore;
 use floor_store::FloorStore;
+use kept_rows::write_left;
 use named_port::{NamedPort, Names};
 use named_store::RowCounts;
 use node_log::{Gatekeeper, Roster, Start};
@@ -39,7 +40,7 @@ use sealed_port::SealedPort;
 use seated_store::SeatedStore;
 use sqlite::Alter;
 use std::alloc::Global;
-use std::io::{Read, Write};
+use std::io::Write;
 use std::net::Net;
 use std::time::Clock as TimeSource;
 use token_file::Book;
@@ -286,13 +287,35 @@ fn indexed_names(alloc: Global, named: &NamedUsers) -> Result<Names, Fault>
     }
 }
 
+/// Writes the log's lines of the rows of a users file that are left out, if there are such rows and a log. A failed
+/// write is ignored.
+fn tell_left<W: Write>(
+    alloc: Global,
+    is_logged: bool,
+    text: &[u8],
+    kept: Option<&[u8]>,
+    writer: &mut W,
+)
+    ensures unlogged { is_logged ≡ false → writer.new ≡ writer.old }
+{
+    let Some(kept) = kept else {
+        return;
+    };
+    if is_logged {
+        let _written = write_left(alloc, writer, text, kept);
+        let _flushed = writer.flush();
+    }
+}
+
 /// Opens a node over its store by names in a new boot, binds a UDP socket to its address, and serves it for the given
 /// turns, or until `until` ends them. Returns `until` too.
 ///
 /// The socket is bound if `socket` isn't yet, and stays bound. Nothing is taken from a member that went back, as long
 /// as `socket` is kept.
 ///
-/// The store is opened as [`open_named_store`] does. The node speaks to the other members by the names of its tokens,
+/// The store is opened as [`open_named_store`] does for the users file with this text. If it has no room for the new
+/// rows, the node is served for the other ones, and the log has a line of each row that is left out before its first
+/// one. The node speaks to the other members by the names of its tokens,
 /// under the key of `serving`. In the process, it speaks to its port under the bare key. It tells the other members the
 /// floors of its tokens in bulk, and takes theirs ([`floor_port`]). The datagrams to a member between two waits are
 /// joined ([`bundle_port`]).
@@ -308,7 +331,6 @@ fn indexed_names(alloc: Global, named: &NamedUsers) -> Result<Names, Fault>
 /// - Returns `Command` with the errors of [`front_of`].
 /// - Returns `Command` with the errors of [`serve_port`].
 pub fn serve_named_store<
-    R: Read + Drop,
     S: Alter + Drop,
     D: Database<S>,
     N: Net + TimeSource,
@@ -317,7 +339,7 @@ pub fn serve_named_store<
 >(
     alloc: Global,
     outside: &N,
-    users: R,
+    text: &[u8],
     moment: u64,
     serving: Serving<'_>,
     cluster: &NamedCluster,
@@ -327,10 +349,10 @@ pub fn serve_named_store<
     writer: &mut W,
 ) -> Result<(Served, U), RosterFault>
     requires { IsMoment moment }
-    ensures served { IfOk result (λ served. IfSome (R.remaining users)
-        (HasServedNamed S.Store D.finds cluster.now moment serving.entry (U.answers served.1) (Ok served.0))) }
-    ensures fault { IfErr result (λ fault. IfSome (R.remaining users)
-        (EndsServingNamed S.Store D.finds cluster.now moment serving.entry fault)) }
+    ensures served { IfOk result (λ served. HasServedRows S.Store D.finds cluster.now moment serving.entry
+        (U.answers served.1) (Ok served.0) text.now) }
+    ensures fault { IfErr result (λ fault. EndsServingRows S.Store D.finds cluster.now moment serving.entry fault
+        text.now) }
     ensures unlogged { serving.entry.is_logged ≡ false → writer.new ≡ writer.old }
 {
     let Serving {
@@ -344,15 +366,16 @@ pub fn serve_named_store<
     } = serving;
     let node = place.me();
     let own_key = key.again();
-    let (named, store, counts, rows) = open_named_store(
-        alloc, users, settings, moment, node, cluster, database,
+    let (named, store, counts, rows, kept) = open_named_store(
+        alloc, text, settings, moment, node, cluster, database,
     )?;
+    tell_left(alloc, is_logged, text, kept.as_deref(), writer);
     let book = &named.users.book;
     let key = tag_key(alloc, key, book)?;
     let names = indexed_names(alloc, &named)?;
     let address = members[usize::from(node) - 1];
     let start = start_of(place, address, store.boot()?, book, &key);
-    let floors = floors_of(alloc, &store)?;
+    let floors = floors_of(alloc, book, &store)?;
     let gone_back = socket.gone_back;
     let known = socket.heard;
     let naming = Naming {

@@ -43,7 +43,7 @@ act_name acts.Audit = codes "audit"
 act_name acts.Gates = codes "gates"
 act_name (acts.Unlock user) = codes "unlock"
 act_name acts.Roster = codes "roster"
-act_name acts.Migrate = codes "migrate"
+act_name (acts.Migrate members) = codes "migrate"
 act_name (acts.Level floors) = codes "level"
 
 -- the name of the command that does this with a store
@@ -71,7 +71,7 @@ act_stored acts.Audit = refl
 act_stored acts.Gates = refl
 act_stored (acts.Unlock user) = refl
 act_stored acts.Roster = refl
-act_stored acts.Migrate = refl
+act_stored (acts.Migrate members) = refl
 act_stored (acts.Level floors) = refl
 
 store_named : (action : Action) → is_store_name (action_name action) ≡ true
@@ -94,7 +94,7 @@ act_so name found acts.Audit asks = asks
 act_so name found acts.Gates asks = asks
 act_so name found (acts.Unlock user) asks = asks.0
 act_so name found acts.Roster asks = asks
-act_so name found acts.Migrate asks = asks
+act_so name found (acts.Migrate members) asks = asks.0
 act_so name found (acts.Level floors) asks = asks.0
 
 -- an action is asked for by its command

@@ -118,6 +118,11 @@ has_log (Syslog address) = true
 abbrev pub begins : Found → Bool
 begins found = is_flag (first_value found (codes "begins"))
 
+-- the number of members that a cluster had until now, or None without the option
+abbrev pub GivesFormerCount : Found → Option ℕ → Type 0
+GivesFormerCount found None = first_value found (codes "members-were") ≡ None
+GivesFormerCount found (Some members) = GivesMember found (codes "members-were") members
+
 -- what the command `name` does to a store by names, with the values found beside its node and its cluster file
 abbrev pub AsksForAct : List ℕ → Found → NamedAct → Type 0
 AsksForAct name found acts.Begin =
@@ -129,7 +134,7 @@ AsksForAct name found acts.Gates = name ≡ codes "gates"
 AsksForAct name found (acts.Unlock user) =
     (name ≡ codes "unlock") × (first_value found (codes "USER") ≡ Some user.now)
 AsksForAct name found acts.Roster = name ≡ codes "roster"
-AsksForAct name found acts.Migrate = name ≡ codes "migrate"
+AsksForAct name found (acts.Migrate members) = (name ≡ codes "migrate") × GivesFormerCount found members
 AsksForAct name found (acts.Level floors) =
     (name ≡ codes "level") × (values_given found (codes "floors") ≡ Some (map (λ path. path.now) floors.items))
 
@@ -151,6 +156,7 @@ AsksForAction name found (Audit node) =
     (name ≡ codes "audit") × GivesMember found (codes "node") node × (first_value found (codes "cluster") ≡ None)
 AsksForAction name found (Migrate node) =
     (name ≡ codes "migrate") × GivesMember found (codes "node") node × (first_value found (codes "cluster") ≡ None)
+    × (first_value found (codes "members-were") ≡ None)
 AsksForAction name found (Floors node count) =
     (name ≡ codes "floors") × GivesMember found (codes "node") node × AsksForCount found node count
 AsksForAction name found (Level node floors) =

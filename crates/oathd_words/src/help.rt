@@ -217,7 +217,11 @@ all else stays. All is done in one step, or nothing.
 
 With --cluster, DB is a store of the present version without names. Its tokens
 get the names that FILE gives, in the order of USERS, and it is bound to the
-cluster. Don't edit USERS before all members of the cluster are migrated.
+cluster. Don't edit USERS before all members of the cluster are migrated. Give
+--members-were then, since DB doesn't say how many members the cluster had, and
+votes count among as many members alone. A row of another kind than its token
+in USERS is refused: an event token has no drift, and a time token's floor is
+not before 2004.
 
 The status is 3 if the database fails, holds no such store, or is of the present
 version.";

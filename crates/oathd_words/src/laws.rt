@@ -218,11 +218,19 @@ pub fn named_words_are_worked()
 
     ensures acts { (found : Found) → AsksForAct (codes "export") found acts.Export
         × AsksForAct (codes "audit") found acts.Audit × AsksForAct (codes "gates") found acts.Gates
-        × AsksForAct (codes "roster") found acts.Roster × AsksForAct (codes "migrate") found acts.Migrate }
+        × AsksForAct (codes "roster") found acts.Roster }
     ensures acts_of_others { (found : Found) → (AsksForAct (codes "audit") found acts.Export → ⊥)
         × (AsksForAct (codes "gates") found acts.Audit → ⊥) × (AsksForAct (codes "roster") found acts.Gates → ⊥)
         × (AsksForAct (codes "export") found acts.Roster → ⊥) × (AsksForAct (codes "roster") found acts.Begin → ⊥)
-        × (AsksForAct (codes "level") found acts.Migrate → ⊥) }
+        × (AsksForAct (codes "level") found (acts.Migrate None) → ⊥) }
+    ensures migrate { (found : Found) → GivesMember found (codes "members-were") 3
+        → AsksForAct (codes "migrate") found (acts.Migrate (Some 3))
+        × (AsksForAct (codes "migrate") found (acts.Migrate (Some 2)) → ⊥) }
+    ensures migrate_of_any { (found : Found) → first_value found (codes "members-were") ≡ None
+        → AsksForAct (codes "migrate") found (acts.Migrate None) }
+    ensures migrate_of_some { (found : Found) → first_value found (codes "members-were") ≡ Some (codes "3")
+        → (AsksForAct (codes "migrate") found (acts.Migrate None) → ⊥)
+        × (AsksForAction (codes "migrate") found (Migrate 1) → ⊥) }
     ensures level { (found : Found) (floors : Vec (Bor (List ℕ))) → values_given found (codes "floors")
         ≡ Some (map (λ path. path.now) floors.items) → AsksForAct (codes "level") found (acts.Level floors)
         × (AsksForAct (codes "gates") found (acts.Level floors) → ⊥) }

@@ -535,6 +535,19 @@ pub(crate) const NAMES_CLUSTER: TextWord = TextWord {
     help: "The cluster file of a store by names: it gives the names",
 };
 
+/// The number of members that the cluster had until now.
+pub(crate) const MEMBERS_WERE: TextWord = TextWord {
+    name: "members-were",
+    value_name: Some("N"),
+    is_required: false,
+    unless: None,
+    conflicts: &[],
+    needs: &["cluster"],
+    is_digit: true,
+    help: "How many members the cluster had until now, 1 to 9: as many as its\n\
+        cluster file has now. It is wanted with --cluster",
+};
+
 /// The user whose failures are cleared.
 pub(crate) const USER: TextWord = TextWord {
     name: "USER",

@@ -11,7 +11,7 @@ ghost use Rattle.otp_core.specs.Limits.{Limits};
 ghost use Rattle.vote_core.specs.NodeSet.{PlaceRecord};
 ghost use Rattle.oathd_words.specs.FormerWords.{former_given, former_value, is_of_former as spec_is_of_former};
 ghost use Rattle.oathd_words.specs.Given.{is_flag};
-ghost use Rattle.oathd_words.specs.StoreWords.{AsksForAction, AsksForClients, AsksForCluster, AsksForImport, AsksForLog, GivesImport, GivesMoment, GivesPlace, begins, few_turns, has_log, takes_anybody, turns_given};
+ghost use Rattle.oathd_words.specs.StoreWords.{AsksForAction, AsksForClients, AsksForCluster, AsksForImport, AsksForLog, GivesFormerCount, GivesImport, GivesMoment, GivesPlace, begins, few_turns, has_log, takes_anybody, turns_given};
 ghost use Rattle.oathd_words.specs.Words.{path_of_action};
 ghost use Rattle.oathd_words.specs.declared.store_words.Action.{Action as AnyAction};
 ghost use Rattle.oathd_words.specs.declared.store_words.ClusterWords.{ClusterWords as AnyCluster};
@@ -114,7 +114,10 @@ pub enum NamedAct<'a> {
     /// Prints its rows.
     Roster,
     /// Upgrades it from a store without names.
-    Migrate,
+    Migrate {
+        /// The number of members that the cluster had until now, 1 to 9, or `None` if it is not given.
+        members_were: Option<u8>,
+    },
     /// Raises its floors to the greatest in floors files.
     Level {
         /// The paths of the floors files.
@@ -538,20 +541,44 @@ fn audit_action<'a>(matches: &ArgMatches<'a>) -> Option<Action<'a>>
     }
 }
 
+/// Returns the value of `--members-were`, `Some(None)` without it, or `None` if it is not a number from 1 to 9.
+fn former_count(matches: &ArgMatches<'_>) -> Option<Option<u8>>
+    ensures some { IfSome result (GivesFormerCount (found_of matches.now)) }
+    ensures none { IfNone result ((members : Option ℕ) → GivesFormerCount (found_of matches.now) members → ⊥) }
+{
+    if matches.get_str("members-were").is_none() {
+        return Some(None);
+    }
+    Some(Some(member_number(matches, "members-were")?))
+}
+
+/// Returns the action of `migrate` without a cluster file, or `None` if a value is missing or wrong.
+fn plain_migrate<'a>(matches: &ArgMatches<'a>) -> Option<Action<'a>>
+    requires { first_value (found_of matches.now) (codes "cluster") ≡ None }
+    ensures some { IfSome result (AsksForAction (codes "migrate") (found_of matches.now)) }
+    ensures none { IfNone result ((action : AnyAction)
+        → AsksForAction (codes "migrate") (found_of matches.now) action → ⊥) }
+{
+    if matches.get_str("members-were").is_some() {
+        return None;
+    }
+    let node = member_number(matches, "node")?;
+    Some(Action::Migrate { node })
+}
+
 /// Returns the action of `migrate`, or `None` if a value is missing or wrong.
 fn migrate_action<'a>(matches: &ArgMatches<'a>) -> Option<Action<'a>>
     ensures some { IfSome result (AsksForAction (codes "migrate") (found_of matches.now)) }
     ensures none { IfNone result ((action : AnyAction)
         → AsksForAction (codes "migrate") (found_of matches.now) action → ⊥) }
 {
+    let Some(path) = matches.get_str("cluster") else {
+        return plain_migrate(matches);
+    };
     let node = member_number(matches, "node")?;
-    match matches.get_str("cluster") {
-        Some(path) => {
-            let act = NamedAct::Migrate;
-            Some(Action::Named { node, path, act })
-        }
-        None => Some(Action::Migrate { node }),
-    }
+    let members_were = former_count(matches)?;
+    let act = NamedAct::Migrate { members_were };
+    Some(Action::Named { node, path, act })
 }
 
 /// Returns the action of `floors`, or `None` if a value is missing or wrong.

@@ -21,7 +21,7 @@ use Rattle.operator_text.specs.declared.status_line.Refusal.TheVariants as Refus
 use Rattle.operator_text.specs.declared.status_line.Seen.{Seen}
 use Rattle.operator_text.specs.declared.status_line.Seen.TheVariants.{Heard, Silent, Differs}
 use Rattle.operator_text.specs.declared.status_line.StatusLine.{StatusLine}
-use Rattle.operator_text.specs.declared.status_line.StatusLine.TheVariants.{Node, Version, Fingerprint, Book, Number, Refused, Commits, Unopened, Member}
+use Rattle.operator_text.specs.declared.status_line.StatusLine.TheVariants.{Node, Version, Fingerprint, Book, Rows, Number, Refused, Commits, Unopened, Member}
 use Rattle.operator_text.proofs.ReadingLemmas.{HasNoLf, is_lf, no_lf_in_digits}
 
 -- ---- parts of a line
@@ -127,12 +127,17 @@ seen_part (Heard seconds) fits = both 20 20 (codes " heard ") (decimal seconds) 
 seen_part Silent is = both 20 20 (codes " silent") [] (word (codes " silent") refl (omega arith)) (word [] refl (omega arith))
 seen_part Differs is = both 20 20 (codes " differs") [] (word (codes " differs") refl (omega arith)) (word [] refl (omega arith))
 
+-- a number of another one
+of_line : (words : List ℕ) (number whole : ℕ) → IsPart 20 words → number < 2 ^ 64 → whole < 2 ^ 64
+    → IsLine (words ++ decimal number ++ codes " of " ++ decimal whole ++ codes "\n")
+of_line words number whole is low fits =
+    line_from 80 (words ++ decimal number ++ codes " of " ++ decimal whole)
+    (both 60 20 (words ++ decimal number ++ codes " of ") (decimal whole)
+    (both 40 20 (words ++ decimal number) (codes " of ") (both 20 20 words (decimal number) is (digits_part number low))
+    (word (codes " of ") refl (omega arith))) (digits_part whole fits)) (omega arith)
+
 pub is_line : (line : StatusLine) → IsStatusLine line → IsLine (line_text line)
-is_line (Node node members) is =
-    line_from 80 (codes "node " ++ decimal node ++ codes " of " ++ decimal members)
-    (both 60 20 (codes "node " ++ decimal node ++ codes " of ") (decimal members)
-    (both 40 20 (codes "node " ++ decimal node) (codes " of ") (both 20 20 (codes "node ") (decimal node) (word (codes "node ") refl (omega arith)) (digits_part node is.0))
-    (word (codes " of ") refl (omega arith))) (digits_part members is.1)) (omega arith)
+is_line (Node node members) is = of_line (codes "node ") node members (word (codes "node ") refl (omega arith)) is.0 is.1
 is_line (Version major minor patch) is =
     let dot = word (codes ".") refl (omega arith) in
     line_from 120 (codes "version " ++ decimal major ++ codes "." ++ decimal minor ++ codes "." ++ decimal patch)
@@ -144,6 +149,7 @@ is_line (Version major minor patch) is =
     (digits_part minor is.1)) dot) (digits_part patch is.2)) (omega arith)
 is_line (Fingerprint digits) is = printed (codes "fingerprint") digits (word (codes "fingerprint") refl (omega arith)) is
 is_line (Book digits) is = printed (codes "book") digits (word (codes "book") refl (omega arith)) is
+is_line (Rows rows limit) is = of_line (codes "rows ") rows limit (word (codes "rows ") refl (omega arith)) is.0 is.1
 is_line (Number quantity number) is = numbered (quantity_word quantity) number (quantity_part quantity) is
 is_line (Refused refusal number) is = numbered (refusal_words refusal) number (refusal_part refusal) is
 is_line (Commits bucket number) is = numbered (bucket_words bucket) number (bucket_part bucket) is

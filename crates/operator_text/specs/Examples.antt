@@ -58,7 +58,7 @@ no_commits = record { one = 0; two = 0; five = 0; ten = 0; twenty = 0; fifty = 0
 abbrev pub unopened_once : Unopened
 unopened_once = record { form = 1; tag = 2; early = 3; late = 4; again = 5; limited = 6 }
 
--- node 1 of 3 without a book, refusals, commits, unopened datagrams and other members
+-- node 1 of 3 without a book, rows, refusals, commits, unopened datagrams and other members
 abbrev pub first_status : Status
 first_status = record {
   node = 1;
@@ -69,6 +69,7 @@ first_status = record {
   started = 1700000000;
   fingerprint = codes "b1061f3a2d61dfbd";
   book = None;
+  rows = None;
   tokens = 2;
   pending = 0;
   closed = 1;

@@ -8,6 +8,7 @@ use Rattle.operator_text.specs.declared.commits.Bucket.TheVariants as Buckets
 use Rattle.operator_text.specs.declared.commits.CommitTimes.{CommitTimes}
 use Rattle.operator_text.specs.declared.status.Other.{Other}
 use Rattle.operator_text.specs.declared.status.Refused.{Refused}
+use Rattle.operator_text.specs.declared.status.Rows.{Rows}
 use Rattle.operator_text.specs.declared.status.Status.{Status}
 use Rattle.operator_text.specs.declared.status_line.Quantity.TheVariants as Quantities
 use Rattle.operator_text.specs.declared.status_line.Refusal.TheVariants as Refusals
@@ -29,10 +30,15 @@ identity_lines status =
     ∷ Lines.Fingerprint status.fingerprint
     ∷ []
 
--- the rows of a store that knows tokens by their names
+-- the print of the users file's rows, if the store knows tokens by their names
 abbrev pub book_lines : Option (List ℕ) → List StatusLine
 book_lines None = []
 book_lines (Some digits) = Lines.Book digits ∷ []
+
+-- the rows of a store that knows tokens by their names, and the maximum number
+abbrev pub rows_lines : Option Rows → List StatusLine
+rows_lines None = []
+rows_lines (Some rows) = Lines.Rows rows.number rows.limit ∷ []
 
 -- the node's tokens and answers
 abbrev pub token_lines : Status → List StatusLine
@@ -90,8 +96,9 @@ other_line other = Lines.Member other.number other.seen
 -- the lines of a report
 abbrev pub status_lines : Status → List StatusLine
 status_lines status =
-    identity_lines status ++ book_lines status.book ++ token_lines status ++ refused_lines status.refused
-    ++ batch_lines status ++ unopened_lines status.unopened ++ map other_line status.others.items
+    identity_lines status ++ book_lines status.book ++ rows_lines status.rows ++ token_lines status
+    ++ refused_lines status.refused ++ batch_lines status ++ unopened_lines status.unopened
+    ++ map other_line status.others.items
 
 -- their texts
 abbrev pub status_text : Status → List (List ℕ)

@@ -14,7 +14,7 @@ use Rattle.operator_text.specs.declared.status_line.Refusal.TheVariants as Refus
 use Rattle.operator_text.specs.declared.status_line.Seen.{Seen}
 use Rattle.operator_text.specs.declared.status_line.Seen.TheVariants.{Heard, Silent, Differs}
 use Rattle.operator_text.specs.declared.status_line.StatusLine.{StatusLine}
-use Rattle.operator_text.specs.declared.status_line.StatusLine.TheVariants.{Node, Version, Fingerprint, Book, Number, Refused, Commits, Unopened, Member}
+use Rattle.operator_text.specs.declared.status_line.StatusLine.TheVariants.{Node, Version, Fingerprint, Book, Rows, Number, Refused, Commits, Unopened, Member}
 
 -- the word of a quantity
 abbrev pub quantity_word : Quantity → List ℕ
@@ -85,6 +85,7 @@ line_text (Version major minor patch) =
     codes "version " ++ decimal major ++ codes "." ++ decimal minor ++ codes "." ++ decimal patch ++ codes "\n"
 line_text (Fingerprint digits) = digits_line (codes "fingerprint") digits
 line_text (Book digits) = digits_line (codes "book") digits
+line_text (Rows rows limit) = codes "rows " ++ decimal rows ++ codes " of " ++ decimal limit ++ codes "\n"
 line_text (Number quantity number) = number_line (quantity_word quantity) number
 line_text (Refused refusal number) = number_line (refusal_words refusal) number
 line_text (Commits bucket number) = number_line (bucket_words bucket) number
@@ -107,6 +108,7 @@ IsStatusLine (Node node members) = (node < 2 ^ 64) × (members < 2 ^ 64)
 IsStatusLine (Version major minor patch) = (major < 2 ^ 64) × (minor < 2 ^ 64) × (patch < 2 ^ 64)
 IsStatusLine (Fingerprint digits) = IsPrint digits
 IsStatusLine (Book digits) = IsPrint digits
+IsStatusLine (Rows rows limit) = (rows < 2 ^ 64) × (limit < 2 ^ 64)
 IsStatusLine (Number quantity number) = number < 2 ^ 64
 IsStatusLine (Refused refusal number) = number < 2 ^ 64
 IsStatusLine (Commits bucket number) = number < 2 ^ 64

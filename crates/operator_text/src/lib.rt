@@ -25,7 +25,7 @@ pub use page::{MAX_LINE_LEN, MAX_PAGE_LEN, Page};
 pub use reading::read_page;
 pub use reply::{Reply, read_reply, write_reply};
 pub use request::{MAX_REQUEST_LEN, Report, Request, read_request, write_request};
-pub use status::{MAX_STATUS_LINES, Other, Refused, Status, Version};
+pub use status::{MAX_STATUS_LINES, Other, Refused, Rows, Status, Version};
 pub use status_laws::{
     commits_are_worked, status_is_a_report, status_lines_are_worked, status_lines_can_be_broken,
     statuses_are_worked,

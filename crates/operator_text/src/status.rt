@@ -15,7 +15,7 @@ use arrayvec::ArrayVec;
 use sealed_port::{Cause, Unopened};
 
 /// The maximum number of lines of a STATUS report.
-pub const MAX_STATUS_LINES: usize = 48;
+pub const MAX_STATUS_LINES: usize = 49;
 
 /// The maximum number of other members.
 const MAX_OTHERS: usize = 8;
@@ -43,6 +43,14 @@ pub struct Refused {
     pub timeout: u64,
 }
 
+/// The rows of a store, also of retired tokens.
+#[derive(Clone, Copy, Debug, PartialEq, Eq)]
+pub struct Rows {
+    pub number: u32,
+    /// The maximum number.
+    pub limit: u32,
+}
+
 /// Another member, and what the node sees of it.
 #[derive(Clone, Copy, Debug, Default, PartialEq, Eq)]
 pub struct Other {
@@ -67,6 +75,8 @@ pub struct Status {
     pub fingerprint: [u8; 16],
     /// The print of the users file's rows, if the store knows tokens by their names: 16 hexadecimal digits.
     pub book: Option<[u8; 16]>,
+    /// The rows of the store, if it knows tokens by their names.
+    pub rows: Option<Rows>,
     /// The number of the tokens, of the lines that wait for votes, and of the tokens that are closed.
     pub tokens: u32,
     pub pending: u32,
@@ -91,7 +101,7 @@ type Lines = ArrayVec<StatusLine, MAX_STATUS_LINES>;
 
 /// Appends a line of a quantity.
 fn push_quantity(lines: &mut Lines, quantity: Quantity, number: u64)
-    requires { array_vec_len lines.old < 48 }
+    requires { array_vec_len lines.old < 49 }
     ensures items { lines.new.items ≡ lines.old.items ++ Variants.Number quantity number ∷ [] }
     ensures len { array_vec_len lines.new ≡ array_vec_len lines.old + 1 }
     ensures each { All IsStatusLine lines.old.items → All IsStatusLine lines.new.items }
@@ -101,7 +111,7 @@ fn push_quantity(lines: &mut Lines, quantity: Quantity, number: u64)
 
 /// Appends a line of a refusal, if its number isn't 0.
 fn push_refusal(lines: &mut Lines, refusal: Refusal, number: u64)
-    requires { array_vec_len lines.old < 48 }
+    requires { array_vec_len lines.old < 49 }
     ensures items { lines.new.items ≡ lines.old.items ++ spec.if_any (Variants.Refused refusal) number }
     ensures len { array_vec_len lines.new ≤ array_vec_len lines.old + 1 }
     ensures each { All IsStatusLine lines.old.items → All IsStatusLine lines.new.items }
@@ -113,7 +123,7 @@ fn push_refusal(lines: &mut Lines, refusal: Refusal, number: u64)
 
 /// Appends a line of a bucket, if its number isn't 0.
 fn push_commit(lines: &mut Lines, bucket: Bucket, number: u64)
-    requires { array_vec_len lines.old < 48 }
+    requires { array_vec_len lines.old < 49 }
     ensures items { lines.new.items ≡ lines.old.items ++ spec.if_any (Variants.Commits bucket) number }
     ensures len { array_vec_len lines.new ≤ array_vec_len lines.old + 1 }
     ensures each { All IsStatusLine lines.old.items → All IsStatusLine lines.new.items }
@@ -125,7 +135,7 @@ fn push_commit(lines: &mut Lines, bucket: Bucket, number: u64)
 
 /// Appends a line of a cause, if its number isn't 0.
 fn push_cause(lines: &mut Lines, cause: Cause, number: u64)
-    requires { array_vec_len lines.old < 48 }
+    requires { array_vec_len lines.old < 49 }
     ensures items { lines.new.items ≡ lines.old.items ++ spec.if_any (Variants.Unopened cause) number }
     ensures len { array_vec_len lines.new ≤ array_vec_len lines.old + 1 }
     ensures each { All IsStatusLine lines.old.items → All IsStatusLine lines.new.items }
@@ -137,7 +147,7 @@ fn push_cause(lines: &mut Lines, cause: Cause, number: u64)
 
 /// Appends the line of a node.
 fn push_node(lines: &mut Lines, node: u8, members: u8)
-    requires { array_vec_len lines.old < 48 }
+    requires { array_vec_len lines.old < 49 }
     ensures items { lines.new.items ≡ lines.old.items ++ Variants.Node node members ∷ [] }
     ensures len { array_vec_len lines.new ≡ array_vec_len lines.old + 1 }
     ensures each { All IsStatusLine lines.old.items → All IsStatusLine lines.new.items }
@@ -147,7 +157,7 @@ fn push_node(lines: &mut Lines, node: u8, members: u8)
 
 /// Appends the line of a version.
 fn push_version(lines: &mut Lines, major: u16, minor: u16, patch: u16)
-    requires { array_vec_len lines.old < 48 }
+    requires { array_vec_len lines.old < 49 }
     ensures items { lines.new.items ≡ lines.old.items ++ Variants.Version major minor patch ∷ [] }
     ensures len { array_vec_len lines.new ≡ array_vec_len lines.old + 1 }
     ensures each { All IsStatusLine lines.old.items → All IsStatusLine lines.new.items }
@@ -155,9 +165,21 @@ fn push_version(lines: &mut Lines, major: u16, minor: u16, patch: u16)
     lines.push(StatusLine::Version(major, minor, patch));
 }
 
+/// Appends the line of a store's rows, if there are any to tell.
+fn push_rows(lines: &mut Lines, rows: Option<Rows>)
+    requires { array_vec_len lines.old < 49 }
+    ensures items { lines.new.items ≡ lines.old.items ++ spec.rows_lines rows }
+    ensures len { array_vec_len lines.new ≤ array_vec_len lines.old + 1 }
+    ensures each { All IsStatusLine lines.old.items → All IsStatusLine lines.new.items }
+{
+    if let Some(rows) = rows {
+        lines.push(StatusLine::Rows(rows.number, rows.limit));
+    }
+}
+
 /// Appends the line of another member.
 fn push_member(lines: &mut Lines, number: u8, seen: Seen)
-    requires { array_vec_len lines.old < 48 }
+    requires { array_vec_len lines.old < 49 }
     ensures items { lines.new.items ≡ lines.old.items ++ Variants.Member number seen ∷ [] }
     ensures len { array_vec_len lines.new ≡ array_vec_len lines.old + 1 }
     ensures each { All IsStatusLine lines.old.items → All IsStatusLine lines.new.items }
@@ -167,7 +189,7 @@ fn push_member(lines: &mut Lines, number: u8, seen: Seen)
 
 /// Appends the lines of refusals.
 fn push_refused(lines: &mut Lines, refused: &Refused)
-    requires { array_vec_len lines.old ≤ 38 }
+    requires { array_vec_len lines.old ≤ 39 }
     ensures items { lines.new.items ≡ lines.old.items ++ spec.refused_lines refused.now }
     ensures len { array_vec_len lines.new ≤ array_vec_len lines.old + 10 }
     ensures each { All IsStatusLine lines.old.items → All IsStatusLine lines.new.items }
@@ -186,7 +208,7 @@ fn push_refused(lines: &mut Lines, refused: &Refused)
 
 /// Appends the lines of commits.
 fn push_commits(lines: &mut Lines, times: &CommitTimes)
-    requires { array_vec_len lines.old ≤ 40 }
+    requires { array_vec_len lines.old ≤ 41 }
     ensures items { lines.new.items ≡ lines.old.items ++ spec.commit_lines times.now }
     ensures len { array_vec_len lines.new ≤ array_vec_len lines.old + 8 }
     ensures each { All IsStatusLine lines.old.items → All IsStatusLine lines.new.items }
@@ -203,7 +225,7 @@ fn push_commits(lines: &mut Lines, times: &CommitTimes)
 
 /// Appends the lines of datagrams that were not opened.
 fn push_unopened(lines: &mut Lines, unopened: &Unopened)
-    requires { array_vec_len lines.old ≤ 42 }
+    requires { array_vec_len lines.old ≤ 43 }
     ensures items { lines.new.items ≡ lines.old.items ++ spec.unopened_lines unopened.now }
     ensures len { array_vec_len lines.new ≤ array_vec_len lines.old + 6 }
     ensures each { All IsStatusLine lines.old.items → All IsStatusLine lines.new.items }
@@ -218,7 +240,7 @@ fn push_unopened(lines: &mut Lines, unopened: &Unopened)
 
 /// Appends the lines of other members.
 fn push_others(lines: &mut Lines, others: &[Other])
-    requires { array_vec_len lines.old + length others.now ≤ 48 }
+    requires { array_vec_len lines.old + length others.now ≤ 49 }
     ensures items { lines.new.items ≡ lines.old.items ++ map spec.other_line others.now }
     ensures each { All IsStatusLine lines.old.items → All IsStatusLine lines.new.items }
 {
@@ -240,7 +262,7 @@ fn text_at(lines: &[StatusLine], number: u32) -> Option<ArrayVec<u8, MAX_LINE_LE
 impl Status {
     /// Appends the lines of the node, its process and its keys.
     fn push_identity(&self, lines: &mut Lines)
-        requires { array_vec_len lines.old ≤ 42 }
+        requires { array_vec_len lines.old ≤ 43 }
         ensures items { lines.new.items ≡ lines.old.items ++ spec.identity_lines self.now }
         ensures len { array_vec_len lines.new ≡ array_vec_len lines.old + 6 }
         ensures each { HasPrints self.now → All IsStatusLine lines.old.items → All IsStatusLine lines.new.items }
@@ -260,7 +282,7 @@ impl Status {
 
     /// Appends the line of the book, if the store knows tokens by their names.
     fn push_book(&self, lines: &mut Lines)
-        requires { array_vec_len lines.old < 48 }
+        requires { array_vec_len lines.old < 49 }
         ensures items { lines.new.items ≡ lines.old.items ++ spec.book_lines self.now.book }
         ensures len { array_vec_len lines.new ≤ array_vec_len lines.old + 1 }
         ensures each { HasPrints self.now → All IsStatusLine lines.old.items → All IsStatusLine lines.new.items }
@@ -272,7 +294,7 @@ impl Status {
 
     /// Appends the lines of the node's tokens and answers.
     fn push_tokens(&self, lines: &mut Lines)
-        requires { array_vec_len lines.old ≤ 42 }
+        requires { array_vec_len lines.old ≤ 43 }
         ensures items { lines.new.items ≡ lines.old.items ++ spec.token_lines self.now }
         ensures len { array_vec_len lines.new ≡ array_vec_len lines.old + 6 }
         ensures each { All IsStatusLine lines.old.items → All IsStatusLine lines.new.items }
@@ -287,7 +309,7 @@ impl Status {
 
     /// Appends the lines of the node's ticks, batches and commits.
     fn push_batches(&self, lines: &mut Lines)
-        requires { array_vec_len lines.old ≤ 37 }
+        requires { array_vec_len lines.old ≤ 38 }
         ensures items { lines.new.items ≡ lines.old.items ++ spec.batch_lines self.now }
         ensures len { array_vec_len lines.new ≤ array_vec_len lines.old + 11 }
         ensures each { All IsStatusLine lines.old.items → All IsStatusLine lines.new.items }
@@ -307,6 +329,7 @@ impl Status {
         let mut lines = ArrayVec::new();
         self.push_identity(&mut lines);
         self.push_book(&mut lines);
+        push_rows(&mut lines, self.rows);
         self.push_tokens(&mut lines);
         push_refused(&mut lines, &self.refused);
         self.push_batches(&mut lines);

@@ -9,7 +9,7 @@ ghost use Rattle.operator_text.specs.StatusLine.{IsStatusLine, line_text};
 ghost use Rattle.operator_text.specs.declared.status_line.Quantity.TheVariants as Quantities;
 ghost use Rattle.operator_text.specs.declared.status_line.Seen.TheVariants.{Differs, Heard, Silent};
 ghost use Rattle.operator_text.specs.declared.status_line.StatusLine.{StatusLine};
-ghost use Rattle.operator_text.specs.declared.status_line.StatusLine.TheVariants.{Book, Fingerprint, Member, Node, Number, Version};
+ghost use Rattle.operator_text.specs.declared.status_line.StatusLine.TheVariants.{Book, Fingerprint, Member, Node, Number, Rows, Version};
 
 /// Reports: the texts of a STATUS report are lines, so that the laws of pages hold for it.
 pub fn status_is_a_report()
@@ -24,6 +24,8 @@ pub fn status_lines_are_worked()
     ensures version { line_text (Version 0 9 10) ≡ codes "version 0.9.10\n" }
     ensures fingerprint { line_text (Fingerprint (codes "b1061f3a2d61dfbd")) ≡ codes "fingerprint b1061f3a2d61dfbd\n" }
     ensures book { line_text (Book (codes "2a8f4a2865495c60")) ≡ codes "book 2a8f4a2865495c60\n" }
+    ensures rows { map line_text (Rows 2 65536 ∷ Rows 4294967295 4294967295 ∷ [])
+        ≡ codes "rows 2 of 65536\n" ∷ codes "rows 4294967295 of 4294967295\n" ∷ [] }
     ensures times { map line_text (Number Quantities.Boot 7 ∷ Number Quantities.Clock 1800000000
         ∷ Number Quantities.Started 1700000000 ∷ []) ≡ codes "boot 7\n" ∷ codes "clock 1800000000\n"
         ∷ codes "started 1700000000\n" ∷ [] }
@@ -49,7 +51,7 @@ pub fn status_lines_are_worked()
         ≡ codes "member 2 heard 3\n" ∷ codes "member 3 silent\n" ∷ codes "member 9 differs\n" ∷ [] }
 {}
 
-/// Worked cases. The lines of reports: without a book, refusals, commits, datagrams and members, and with all of
+/// Worked cases. The lines of reports: without a book, rows, refusals, commits, datagrams and members, and with all of
 /// them.
 pub fn statuses_are_worked()
     ensures least { status_text first_status ≡ codes "node 1 of 3\n" ∷ codes "boot 7\n" ∷ codes "version 0.9.0\n"
@@ -58,6 +60,9 @@ pub fn statuses_are_worked()
         ∷ codes "accepted 3\n" ∷ codes "ticks 5\n" ∷ codes "largest-batch 3\n" ∷ codes "commits 0\n" ∷ [] }
     ensures book { take 2 (drop 5 (status_text (record first_status { book = Some (codes "2a8f4a2865495c60") })))
         ≡ codes "fingerprint b1061f3a2d61dfbd\n" ∷ codes "book 2a8f4a2865495c60\n" ∷ [] }
+    ensures rows { take 3 (drop 6 (status_text (record first_status
+        { book = Some (codes "2a8f4a2865495c60"); rows = Some (record { number = 3; limit = 65536 }) })))
+        ≡ codes "book 2a8f4a2865495c60\n" ∷ codes "rows 3 of 65536\n" ∷ codes "tokens 2\n" ∷ [] }
     ensures refused { take 4 (drop 11 (status_text (record first_status
         { refused = record first_status.refused { clock = 8; spent = 1 } })))
         ≡ codes "accepted 3\n" ∷ codes "refused CLOCK 8\n" ∷ codes "refused SPENT 1\n" ∷ codes "ticks 5\n" ∷ [] }
@@ -72,14 +77,16 @@ pub fn statuses_are_worked()
       unopened = record first_status.unopened { form = 1 };
       others = record { items = record { number = 2; seen = Heard 0 } ∷ record { number = 3; seen = Silent } ∷ [] };
     }))
-        ≡ codes "commits 0\n" ∷ codes "unopened form 1\n" ∷ codes "member 2 heard 0\n" ∷ codes "member 3 silent\n" ∷ [] }
+        ≡ codes "commits 0\n" ∷ codes "unopened form 1\n" ∷ codes "member 2 heard 0\n"
+        ∷ codes "member 3 silent\n" ∷ [] }
     ensures most { length (status_text (record first_status {
       book = Some (replicate 16 48);
+      rows = Some (record { number = 3; limit = 65536 });
       refused = refused_once;
       commit_times = commits_once;
       unopened = unopened_once;
       others = record { items = replicate 8 (record { number = 2; seen = Silent }) };
-    })) ≡ 48 }
+    })) ≡ 49 }
 {}
 
 /// Worked cases. The number of all commits.
@@ -93,6 +100,9 @@ pub fn commits_are_worked()
 pub fn status_lines_can_be_broken()
     ensures number { IsStatusLine (Number Quantities.Boot 18446744073709551615) }
     ensures number_of_65_bits { IsStatusLine (Number Quantities.Boot 18446744073709551616) → ⊥ }
+    ensures rows { IsStatusLine (Rows 18446744073709551615 18446744073709551615) }
+    ensures rows_of_65_bits { IsStatusLine (Rows 18446744073709551616 1) → ⊥ }
+    ensures limit_of_65_bits { IsStatusLine (Rows 1 18446744073709551616) → ⊥ }
     ensures digits { IsStatusLine (Fingerprint (codes "b1061f3a2d61dfbd")) }
     ensures digits_of_17 { IsStatusLine (Fingerprint (codes "b1061f3a2d61dfbd0")) → ⊥ }
     ensures lf { IsStatusLine (Book (codes "b1061f3a2d61dfb\n")) → ⊥ }

@@ -79,6 +79,8 @@ pub enum StatusLine {
     Fingerprint([u8; 16]),
     /// The print of the rows of the users file: 16 hexadecimal digits.
     Book([u8; 16]),
+    /// The number of the store's rows, and the maximum number.
+    Rows(u32, u32),
     Number(Quantity, u64),
     /// The number of refusals for a reason.
     Refused(Refusal, u64),
@@ -224,6 +226,17 @@ fn node_line(node: u8, members: u8) -> ArrayVec<u8, MAX_LINE_LEN>
     line
 }
 
+/// Returns the line of a store's rows.
+fn rows_line(rows: u32, limit: u32) -> ArrayVec<u8, MAX_LINE_LEN>
+    ensures { result.items ≡ spec.line_text (Lines.Rows rows limit) }
+{
+    let mut line = ArrayVec::new();
+    push_number(&mut line, b"rows ", u64::from(rows));
+    push_number(&mut line, b" of ", u64::from(limit));
+    push(&mut line, b"\n");
+    line
+}
+
 /// Returns the line of a version.
 fn version_line(major: u16, minor: u16, patch: u16) -> ArrayVec<u8, MAX_LINE_LEN>
     ensures { result.items ≡ spec.line_text (Lines.Version major minor patch) }
@@ -270,6 +283,7 @@ impl StatusLine {
             StatusLine::Version(major, minor, patch) => version_line(*major, *minor, *patch),
             StatusLine::Fingerprint(digits) => digits_line(b"fingerprint", digits),
             StatusLine::Book(digits) => digits_line(b"book", digits),
+            StatusLine::Rows(rows, limit) => rows_line(*rows, *limit),
             StatusLine::Number(quantity, number) => number_line(quantity_word(*quantity), *number),
             StatusLine::Refused(refusal, number) => number_line(refusal_words(*refusal), *number),
             StatusLine::Commits(bucket, number) => number_line(bucket_words(*bucket), *number),

@@ -1,7 +1,9 @@
-//! The tests of `count_port`, `floor_port` and `named_port`, with `named_wire`, by their public calls alone. They are a
-//! crate of their own, since a crate is proved again with its tests.
+//! The tests of `bundle_port`, `count_port`, `floor_port` and `named_port`, with `named_wire`, by their public calls
+//! alone. They are a crate of their own, since a crate is proved again with its tests.
 #![tactic(auto)]
 
+#[cfg(test)]
+mod bundle_port_tests;
 #[cfg(test)]
 mod count_port_tests;
 #[cfg(test)]

@@ -1,6 +1,7 @@
 //! Finds out whose store a database holds.
 
 ghost use Rattle.std.specs.Prelude.{◌≤◌, IfOk};
+ghost use Rattle.floor_sql.specs.Schema.{most_rows, version_of};
 ghost use Rattle.floor_sql.specs.Steps.{ReadsTables};
 ghost use Rattle.floor_sql.specs.Usable.{IsNode};
 ghost use Rattle.floor_sql.specs.declared.schema.Format.TheVariants.{Named};
@@ -17,7 +18,7 @@ pub(crate) fn check_tables<S: Alter>(
     node: u8,
     tokens: u32,
 ) -> Result<(), Refusal>
-    requires { tokens ≤ 10000 }
+    requires { tokens ≤ most_rows (version_of format) }
     ensures { ReadsTables S.Store conn.old conn.new (λ db _. IsStoreOf format db node tokens)
         (λ db. IsUsableStoreOf format db node tokens) result }
 {
@@ -40,7 +41,7 @@ pub(crate) fn check_tables<S: Alter>(
 pub fn node_of_named<S: Alter>(conn: &mut Connection<S>) -> Result<(u8, u32), Refusal>
     ensures reads { ReadsTables S.Store conn.old conn.new (λ db own. IsStoreOf Named db own.0 own.1)
         HasUsableNamed result }
-    ensures range { IfOk result (λ own. IsNode own.0 × (own.1 ≤ 10000)) }
+    ensures range { IfOk result (λ own. IsNode own.0 × (own.1 ≤ 65536)) }
 {
     if !is_of_format(conn.schema(), Format::Named) {
         return Err(Refusal(StoreFault::Unusable));

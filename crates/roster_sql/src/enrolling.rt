@@ -41,7 +41,7 @@ fn insert_rows<S: Alter>(
     first: u32,
     floors: &[Next],
 ) -> Result<(), Refusal>
-    requires numbers { first + length floors.now ≤ 10000 }
+    requires numbers { first + length floors.now ≤ 65536 }
     requires inside { HasCleanDisk (state S.Store tx.old.conn.now)
         → IsTrue (state S.Store tx.old.conn.now).in_transaction }
     requires schema { HasCleanDisk (state S.Store tx.old.conn.now) → tx.old.conn.now.schema ≡ schema_of Named }
@@ -76,7 +76,7 @@ fn append_tokens<S: Alter>(
     floors: &[Next],
     entries: &[Entry],
 ) -> Result<(), Refusal>
-    requires numbers { tokens + length floors.now ≤ 10000 }
+    requires numbers { tokens + length floors.now ≤ 65536 }
     requires counted { length entries.now ≡ length floors.now }
     requires inside { HasCleanDisk (state S.Store tx.old.conn.now)
         → IsTrue (state S.Store tx.old.conn.now).in_transaction }
@@ -100,7 +100,7 @@ fn put_and_append<S: Alter>(
     floors: &[Next],
     entries: &[Entry],
 ) -> Result<(), Refusal>
-    requires numbers { tokens + length floors.now ≤ 10000 }
+    requires numbers { tokens + length floors.now ≤ 65536 }
     requires counted { length entries.now ≡ length floors.now }
     requires range { count + length puts.now < 2 ^ 63 }
     requires inside { HasCleanDisk (state S.Store tx.old.conn.now)
@@ -126,7 +126,7 @@ fn grow_tokens<S: Alter>(
     floors: &[Next],
     entries: &[Entry],
 ) -> Result<(), Refusal>
-    requires numbers { tokens + length floors.now ≤ 10000 }
+    requires numbers { tokens + length floors.now ≤ 65536 }
     requires counted { length entries.now ≡ length floors.now }
     requires range { count + length puts.now < 2 ^ 63 }
     requires inside { HasCleanDisk (state S.Store tx.old.conn.now)
@@ -154,7 +154,7 @@ fn write_tokens<S: Alter>(
     entries: &[Entry],
 ) -> Result<(), Refusal>
     requires idle { conn.old.in_transaction ≡ false }
-    requires numbers { tokens + length floors.now ≤ 10000 }
+    requires numbers { tokens + length floors.now ≤ 65536 }
     requires counted { length entries.now ≡ length floors.now }
     requires range { count + length puts.now < 2 ^ 63 }
     requires there { HasCleanDisk (state S.Store conn.old)
@@ -193,7 +193,7 @@ pub fn enrol<S: Alter>(
     entries: &[Entry],
 ) -> Result<(), Refusal>
     requires idle { conn.old.in_transaction ≡ false }
-    requires numbers { tokens + length floors.now ≤ 10000 }
+    requires numbers { tokens + length floors.now ≤ 65536 }
     requires counted { length entries.now ≡ length floors.now }
     requires range { count + length puts.now < 2 ^ 63 }
     requires can { HasCleanDisk (state S.Store conn.old) → MayPut (state S.Store conn.old).now count puts.now }

@@ -74,7 +74,7 @@ pub(crate) fn insert_entries<S: Alter>(
     first: u32,
     entries: &[Entry],
 ) -> Result<(), Refusal>
-    requires numbers { first + length entries.now ≤ 10000 }
+    requires numbers { first + length entries.now ≤ 65536 }
     requires inside { HasCleanDisk (state S.Store tx.old.conn.now)
         → IsTrue (state S.Store tx.old.conn.now).in_transaction }
     requires schema { HasCleanDisk (state S.Store tx.old.conn.now) → tx.old.conn.now.schema ≡ schema_of Named }
@@ -129,7 +129,7 @@ pub fn add_names<S: Alter>(
     entries: &[Entry],
     own: &Bond,
 ) -> Result<(), Refusal>
-    requires numbers { length entries.now ≤ 10000 }
+    requires numbers { length entries.now ≤ 65536 }
     requires inside { HasCleanDisk (state S.Store tx.old.conn.now)
         → IsTrue (state S.Store tx.old.conn.now).in_transaction }
     requires there { HasCleanDisk (state S.Store tx.old.conn.now)

@@ -29,7 +29,7 @@ fn fill_named<S: Alter>(
     own: &Bond,
 ) -> Result<(), Refusal>
     requires boot { IsCount boot }
-    requires tokens { length floors.now ≤ 10000 }
+    requires tokens { length floors.now ≤ 65536 }
     requires counted { length entries.now ≡ length floors.now }
     requires inside { HasCleanDisk (state S.Store tx.old.conn.now)
         → IsTrue (state S.Store tx.old.conn.now).in_transaction }
@@ -51,7 +51,7 @@ fn write_named<S: Alter>(
     own: &Bond,
 ) -> Result<(), Refusal>
     requires boot { IsCount boot }
-    requires tokens { length floors.now ≤ 10000 }
+    requires tokens { length floors.now ≤ 65536 }
     requires counted { length entries.now ≡ length floors.now }
     requires idle { conn.old.in_transaction ≡ false }
     requires schema { conn.old.schema ≡ no_schema }
@@ -88,7 +88,7 @@ pub fn make_named<S: Alter>(
     requires idle { conn.old.in_transaction ≡ false }
     requires node { IsNode node }
     requires boot { IsCount boot }
-    requires tokens { length floors.now ≤ 10000 }
+    requires tokens { length floors.now ≤ 65536 }
     requires counted { length entries.now ≡ length floors.now }
     ensures made { has_own_table conn.old.schema ≡ false → Transacts S.Store (λ e. e.0) conn.old conn.new
         (OpensNamed node boot floors.now entries.now own.now) IsLeft (λ db. IsForeign db.schema) result }

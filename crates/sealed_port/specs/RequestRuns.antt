@@ -62,8 +62,8 @@ AreOperatorsInOrder [] = Unit {0}
 AreOperatorsInOrder (life ∷ lives) = AllByRecursion (AreOperatorsBefore life) lives × AreOperatorsInOrder lives
 
 -- A gate's opening of a request in a datagram from an address. The operator that the request names shares a key with
--- the gate. The datagram is the request, sealed under the key for the gate's node at the request's moment, with its tag.
--- The operator's window admits the moment at the second that the clock told, and there is room.
+-- the gate. The datagram is the request, sealed under the key for the gate's node at the request's moment, with its
+-- tag. The operator's window admits the moment at the second that the clock told, and there is room.
 pub record IsRequestOf (gate : GateRecord) (now : Option ℕ) (address : ℕ) (bytes : List ℕ) (request : AsideRecord)
     : Type 0 where
   pub operator : Operator

@@ -44,7 +44,7 @@ impl<S: FloorStore> Model for SeatedStore<S> {
     ghost view = { λ s. record { inner = s.inner; seats = s.seats.items; is_unusable = s.is_unusable } };
 
     ghost invariant = { λ s. AreSeats (length (S.held s.inner).content.rows) s.seats.items
-        × (length (S.held s.inner).content.rows ≤ 10000) };
+        × (length (S.held s.inner).content.rows ≤ 65536) };
 }
 
 impl<S: FloorStore> SeatedStore<S> {

@@ -65,7 +65,10 @@ impl Model for Voter {
 
 impl Voter {
     /// Opens a voter in a new boot. No proposal is pending, and the next tick tells the floor of token 0.
+    ///
+    /// The store has a row for each token of the server, of which there are at most 10,000.
     pub fn open<S: FloorStore>(store: &mut S, place: Place) -> Result<Voter, StoreFault>
+        requires tokens { length (S.held store.old).content.rows ≤ 10000 }
         ensures opened { IfOk result (λ voter. voter_of voter ≡ fresh_voter) }
         ensures place { IfOk result (λ voter. voter.place ≡ place) }
         ensures store { IfOk result (λ voter. IsStoreOf voter (S.held store.new)) }

@@ -136,6 +136,15 @@ returns-clause-own_row c = record {
   self = record { boot = 4; range = omega arith; only = self_has 2 9 10000 4 };
 }
 
+pub returns-clause-own_row_named : goal.returns-clause-own_row_named
+returns-clause-own_row_named c = record {
+  node = 9;
+  of_node = record { first = omega arith; last = omega arith };
+  tokens = 65536;
+  of_tokens = omega arith;
+  self = record { boot = 4; range = omega arith; only = self_has 3 9 65536 4 };
+}
+
 pub returns-clause-own_row_of_node : goal.returns-clause-own_row_of_node
 returns-clause-own_row_of_node c = λ boot h.
     let node = (self_is 2 10 0 boot 2 h.node h.tokens h.self.boot h.self.only).1 in
@@ -147,6 +156,12 @@ pub returns-clause-own_row_of_tokens : goal.returns-clause-own_row_of_tokens
 returns-clause-own_row_of_tokens c = λ boot h.
     let tokens = (self_is 2 1 10001 boot 2 h.node h.tokens h.self.boot h.self.only).2 in
     let range : h.tokens ≤ 10000 = h.of_tokens in
+    omega (arith, tokens, range)
+
+pub returns-clause-own_row_of_many : goal.returns-clause-own_row_of_many
+returns-clause-own_row_of_many c = λ boot h.
+    let tokens = (self_is 3 1 65537 boot 3 h.node h.tokens h.self.boot h.self.only).2 in
+    let range : h.tokens ≤ 65536 = h.of_tokens in
     omega (arith, tokens, range)
 
 pub returns-clause-own_row_version : goal.returns-clause-own_row_version
@@ -223,30 +238,44 @@ returns-clause-token c = record { floor = usable_floor; drift = usable_drift }
 -- ---- the passes
 
 -- the one pass is in range
-one_audit : (pass : PassRecord) → IsAudit pass → AreAudit (pass ∷ [])
-one_audit pass is zero other e = let same : pass ≡ other = cc in subst IsAudit same is
-one_audit pass is (suc place) other e = absurd cc
+one_audit : (most : ℕ) (pass : PassRecord) → IsAudit most pass → AreAudit most (pass ∷ [])
+one_audit most pass is zero other e = let same : pass ≡ other = cc in subst (IsAudit most) same is
+one_audit most pass is (suc place) other e = absurd cc
+
+-- the one pass is usable if its token is below the number of tokens
+pass_usable : (trees : Trees) (token most : ℕ) → trees 2 ≡ pass_row 1 (record old_pass { token = token }) ∷ [] → token < most → token < 65536
+    → HasUsablePasses trees most
+pass_usable trees token most held low below =
+    let pass : PassRecord = record old_pass { token = token } in
+    record {
+      passes = pass ∷ [];
+      ranges = one_audit most pass (record {
+        whole = record { token = below; boot = omega arith; seq = omega arith };
+        token = low;
+        span = record { lo = omega arith; hi = omega arith; spanned = record { ordered = omega arith; short = omega arith } };
+      });
+      room = omega arith;
+      holds = subst (λ (rows : List Row). IsPermutation (pass_values 1 pass ∷ []) (map pass_columns rows)) (sym held) (IsPermutation-refl (pass_values 1 pass ∷ []));
+    }
+
+-- and not beyond the number of tokens
+pass_of_many : (trees : Trees) (token most : ℕ) → trees 2 ≡ pass_row 1 (record old_pass { token = token }) ∷ [] → most ≤ token
+    → HasUsablePasses trees most → ⊥
+pass_of_many trees token most held many h =
+    let bad : PassRecord = record old_pass { token = token } in
+    let one : IsPermutation (pass_values 1 bad ∷ []) (map pass_columns (trees 2)) =
+    subst (λ (rows : List Row). IsPermutation (pass_values 1 bad ∷ []) (map pass_columns rows)) (sym held) (IsPermutation-refl (pass_values 1 bad ∷ [])) in
+    let passes : h.passes ≡ bad ∷ [] = same_passes trees h.passes (bad ∷ []) h.holds one in
+    let ranges : AreAudit most h.passes = h.ranges in
+    let audit : IsAudit most bad = ranges 0 bad (ap (λ (all : List PassRecord). slice_get all 0) passes) in
+    let low : token < most = audit.token in
+    omega (arith, low, many)
 
 pub returns-clause-passes : goal.returns-clause-passes
-returns-clause-passes c = record {
-  passes = old_pass ∷ [];
-  ranges = one_audit old_pass (record {
-    whole = record { token = omega arith; boot = omega arith; seq = omega arith };
-    span = record { lo = omega arith; hi = omega arith; spanned = record { ordered = omega arith; short = omega arith } };
-  });
-  room = omega arith;
-  holds = IsPermutation-refl (pass_values 1 old_pass ∷ []);
-}
+returns-clause-passes c = pass_usable _ 9999 10000 refl (omega arith) (omega arith)
 
 pub returns-clause-passes_range : goal.returns-clause-passes_range
-returns-clause-passes_range c = λ boot h.
-    let bad : PassRecord = record old_pass { token = 10000 } in
-    let passes : h.passes ≡ bad ∷ [] =
-    same_passes (tables_at boot (pass_row 1 bad ∷ [])) h.passes (bad ∷ []) h.holds (IsPermutation-refl (pass_values 1 bad ∷ [])) in
-    let ranges : AreAudit h.passes = h.ranges in
-    let audit : IsAudit bad = ranges 0 bad (ap (λ (all : List PassRecord). slice_get all 0) passes) in
-    let token = audit.whole.token in
-    omega (arith, token)
+returns-clause-passes_range c = λ boot h. pass_of_many _ 10000 10000 refl (omega arith) h
 
 pub returns-clause-passes_room : goal.returns-clause-passes_room
 returns-clause-passes_room c = λ rows many h.
@@ -270,8 +299,8 @@ returns-clause-passes_numbers c = λ boot h. numbered h.passes h.holds
 -- ---- a whole store
 
 -- no pass
-no_passes : (trees : Trees) → trees 2 ≡ [] → HasUsablePasses trees
-no_passes trees none = record {
+no_passes : (trees : Trees) (most : ℕ) → trees 2 ≡ [] → HasUsablePasses trees most
+no_passes trees most none = record {
   passes = [];
   ranges = λ place pass e. absurd cc;
   room = omega arith;
@@ -282,11 +311,15 @@ pub returns-clause-usable : goal.returns-clause-usable
 returns-clause-usable c = record {
   schema = refl;
   of_node = record { first = omega arith; last = omega arith };
+  few = omega arith;
   self = record { boot = 4; range = omega arith; only = self_has 2 1 1 4 };
   rows = λ token low. let first : token ≡ 0 = omega (arith, low) in
       subst (HasUsableRow token_db.trees) (sym first) (record { floor = usable_floor; drift = usable_drift });
-  passes = no_passes token_db.trees refl;
+  passes = no_passes token_db.trees 10000 refl;
 }
+
+pub returns-clause-usable_few : goal.returns-clause-usable_few
+returns-clause-usable_few c = λ floors drifts h. let few : 10001 ≤ 10000 = h.few in omega (arith, few)
 
 pub returns-clause-usable_self : goal.returns-clause-usable_self
 returns-clause-usable_self c = λ boot h.
@@ -304,10 +337,24 @@ pub returns-clause-usable_named : goal.returns-clause-usable_named
 returns-clause-usable_named c = record {
   schema = refl;
   of_node = record { first = omega arith; last = omega arith };
+  few = omega arith;
   self = record { boot = 4; range = omega arith; only = self_has 3 1 0 4 };
   rows = λ token low. absurd (omega (arith, low));
-  passes = no_passes named_db.trees refl;
+  passes = no_passes named_db.trees 65536 refl;
 }
+
+pub returns-clause-usable_named_pass : goal.returns-clause-usable_named_pass
+returns-clause-usable_named_pass c = record {
+  schema = refl;
+  of_node = record { first = omega arith; last = omega arith };
+  few = omega arith;
+  self = record { boot = 4; range = omega arith; only = self_has 3 1 0 4 };
+  rows = λ token low. absurd (omega (arith, low));
+  passes = pass_usable _ 65535 65536 refl (omega arith) (omega arith);
+}
+
+pub returns-clause-usable_named_few : goal.returns-clause-usable_named_few
+returns-clause-usable_named_few c = λ floors drifts h. let few : 65537 ≤ 65536 = h.few in omega (arith, few)
 
 pub returns-clause-usable_version : goal.returns-clause-usable_version
 returns-clause-usable_version c = λ boot h.
@@ -315,9 +362,12 @@ returns-clause-usable_version c = λ boot h.
     let e = (self_is 2 1 0 boot 3 1 0 self.boot self.only).0 in
     omega (arith, e)
 
+pub returns-clause-usable_pass_of_many : goal.returns-clause-usable_pass_of_many
+returns-clause-usable_pass_of_many c = λ boot h. pass_of_many _ 10000 10000 refl (omega arith) h.passes
+
 pub returns-clause-usable_passes : goal.returns-clause-usable_passes
 returns-clause-usable_passes c = λ boot h.
-    let passes : HasUsablePasses (tables_at boot (pass_row 2 old_pass ∷ [])) = h.passes in numbered passes.passes passes.holds
+    let passes : HasUsablePasses (tables_at boot (pass_row 2 old_pass ∷ [])) 10000 = h.passes in numbered passes.passes passes.holds
 
 pub returns-clause-old_usable : goal.returns-clause-old_usable
 returns-clause-old_usable c = record {
@@ -330,7 +380,7 @@ returns-clause-old_usable c = record {
         range = free_range;
         only = floor_has 9;
       });
-  passes = no_passes old_token_db.trees refl;
+  passes = no_passes old_token_db.trees 10000 refl;
 }
 
 pub returns-clause-old_usable_self : goal.returns-clause-old_usable_self
@@ -345,7 +395,10 @@ returns-clause-old_usable_floors c = λ boot h.
     let only = (floors 0 (omega arith)).only.only in
     absurd cc
 
+pub returns-clause-old_usable_pass_of_many : goal.returns-clause-old_usable_pass_of_many
+returns-clause-old_usable_pass_of_many c = λ boot h. pass_of_many _ 10000 10000 refl (omega arith) h.passes
+
 pub returns-clause-old_usable_passes : goal.returns-clause-old_usable_passes
 returns-clause-old_usable_passes c = λ boot h.
-    let passes : HasUsablePasses (old_db_at boot (pass_row 2 old_pass ∷ [])).trees = h.passes in
+    let passes : HasUsablePasses (old_db_at boot (pass_row 2 old_pass ∷ [])).trees 10000 = h.passes in
     numbered passes.passes passes.holds

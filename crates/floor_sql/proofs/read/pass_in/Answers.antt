@@ -9,10 +9,10 @@ use Rattle.floor_sql.specs.Stored.{pass_values}
 use Rattle.floor_sql.specs.Usable.{IsAudit, IsSpanOfFactors}
 use Rattle.floor_sql.proofs.read.pass_in.Goals as goal
 
-none_found : (shown : Row) (number : ℕ) (result : Option PassRecord) → result ≡ None
+none_found : (shown : Row) (number most : ℕ) (result : Option PassRecord) → result ≡ None
     → ((span : SpanRecord) → IsSpanOfFactors span → ((column shown 2 ≡ Int (pos span.lo)) × (column shown 3 ≡ Int (pos span.hi))) → ⊥)
-    → Finds (λ pass. pass_shown shown ≡ pass_values number pass) IsAudit result
-none_found shown number result is none = record {
+    → Finds (λ pass. pass_shown shown ≡ pass_values number pass) (IsAudit most) result
+none_found shown number most result is none = record {
   value = subst (λ (o : Option PassRecord). IfSome o (λ pass. pass_shown shown ≡ pass_values number pass)) (sym is) tt;
   none = λ _ pass h shows.
       let lo : column shown 2 ≡ Int (pos pass.lo) = cc in
@@ -22,4 +22,4 @@ none_found shown number result is none = record {
 
 pub returns-in_err-span : goal.returns-in_err-span
 returns-in_err-span c =
-    none_found c.args.shown.now c.args.number c.from_residual-in_err-span.result c.from_residual-in_err-span.ensures (λ span h shows. c.in_err-span.ensures.none refl span h shows)
+    none_found c.args.shown.now c.args.number c.args.most c.from_residual-in_err-span.result c.from_residual-in_err-span.ensures (λ span h shows. c.in_err-span.ensures.none refl span h shows)

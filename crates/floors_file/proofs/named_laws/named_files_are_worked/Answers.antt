@@ -41,6 +41,9 @@ returns-clause-names_word c = refl
 pub returns-clause-range : goal.returns-clause-range
 returns-clause-range c = refl
 
+pub returns-clause-most_rows : goal.returns-clause-most_rows
+returns-clause-most_rows c = refl
+
 pub returns-clause-life : goal.returns-clause-life
 returns-clause-life c = refl
 

@@ -8,13 +8,13 @@ pub returns-clause-new : goal.returns-clause-new
 unfolding report head digits
 returns-clause-new c = refl
 
-pub returns-clause-changed : goal.returns-clause-changed
+pub returns-clause-before : goal.returns-clause-before
 unfolding report head digits
-returns-clause-changed c = refl
+returns-clause-before c = refl
 
-pub returns-clause-nothing_new : goal.returns-clause-nothing_new
+pub returns-clause-all_kept : goal.returns-clause-all_kept
 unfolding report head digits
-returns-clause-nothing_new c = refl
+returns-clause-all_kept c = refl
 
 pub returns-clause-no_rows : goal.returns-clause-no_rows
 unfolding report head digits
@@ -23,6 +23,18 @@ returns-clause-no_rows c = refl
 pub returns-clause-no_user : goal.returns-clause-no_user
 unfolding report head digits
 returns-clause-no_user c = refl
+
+pub returns-clause-second_of_two : goal.returns-clause-second_of_two
+unfolding report head digits
+returns-clause-second_of_two c = refl
+
+pub returns-clause-nexts : goal.returns-clause-nexts
+unfolding report head digits
+returns-clause-nexts c = refl
+
+pub returns-clause-no_next : goal.returns-clause-no_next
+unfolding report head digits
+returns-clause-no_next c = refl
 
 pub returns-clause-bytes : goal.returns-clause-bytes
 unfolding report head digits

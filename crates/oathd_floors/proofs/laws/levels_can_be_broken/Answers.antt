@@ -1,5 +1,5 @@
 -- Each promise is asked about the store that breaks it.
-use Rattle.std.proofs.Common.{◌≡◌, ℕ, List, [], ◌∷◌, length, replicate, refl, ap, sym, subst, ◌∙◌, arith}
+use Rattle.std.proofs.Common.{◌≡◌, ℕ, List, [], ◌∷◌, length, replicate, refl, ap, sym, ◌∙◌, arith}
 use Rattle.std.specs.Prelude.{false, slice_index_or, Some, None}
 use Rattle.floor_store.specs.Content.{Content, opening_row}
 use Rattle.floors_file.specs.Named.{NamedFloorsRecord}

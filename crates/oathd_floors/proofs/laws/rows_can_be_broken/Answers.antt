@@ -5,7 +5,7 @@ use Rattle.floor_store.specs.Records.{PassRecord}
 use Rattle.floor_sql.specs.Broken.{small_content}
 use Rattle.roster_sql.specs.Examples.{entry_of, first_content, one_token, other_bond, small_bond}
 use Rattle.roster_sql.specs.declared.entry.Entry.{Entry}
-use Rattle.oathd_database.specs.Broken.{shows_any, shows_none}
+use Rattle.oathd_database.specs.Broken.{shows_any}
 use Rattle.oathd_database.proofs.BrokenLemmas.{clean_is}
 use Rattle.oathd_floors.specs.Examples.{named_conn, named_store, one_entry}
 use Rattle.oathd_floors.proofs.BrokenLemmas.{not_other, one_bound, one_read, one_rows, one_unbound, rows_read}

@@ -4,7 +4,7 @@ use Rattle.floor_store.specs.Content.{Content}
 use Rattle.floors_file.specs.NamedWriting.{named_floors_text}
 use Rattle.roster_sql.specs.Examples.{first_content, one_token, other_bond, small_bond}
 use Rattle.roster_sql.specs.declared.entry.Entry.{Entry}
-use Rattle.oathd_database.specs.Broken.{shows_any, shows_none}
+use Rattle.oathd_database.specs.Broken.{shows_any}
 use Rattle.oathd_database.proofs.BrokenLemmas.{clean_is}
 use Rattle.oathd_floors.specs.Examples.{named_store, one_entry}
 use Rattle.oathd_floors.specs.Told.{told_file}

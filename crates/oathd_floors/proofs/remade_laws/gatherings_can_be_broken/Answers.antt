@@ -1,17 +1,17 @@
 -- Each promise is asked about the files that break it. What the files lack is computed.
-use Rattle.std.proofs.Common.{◌≡◌, inl, ⊎_elim, ℕ, ◌<◌, List, [], ◌∷◌, Some, None, length, refl, ap, sym, subst, arith}
-use Rattle.std.specs.Prelude.{codes, Ok, true}
+use Rattle.std.proofs.Common.{◌≡◌, inl, ⊎_elim, ℕ, ◌<◌, List, [], ◌∷◌, Some, None, length, refl, ap, subst, arith}
+use Rattle.std.specs.Prelude.{true}
 use Rattle.otp_core.specs.Limits.{default_limits}
 use Rattle.token_file.specs.Credential.{Credential}
 use Rattle.floors_file.specs.Named.{NamedFloorsRecord}
 use Rattle.floors_file.specs.NamedGathered.{gathered_rows}
 use Rattle.floors_file.specs.declared.gathered.FileFault.TheVariants.{Boot, Older}
-use Rattle.floors_file.specs.declared.gathered.FilesFault.{FilesFault}
 use Rattle.floors_file.specs.declared.gathered.FilesFault.TheVariants.{File, NotLost, TooManyLost}
 use Rattle.named_floors.specs.Remade.{remade_entries}
+use Rattle.named_floors.proofs.MadeLemmas.{gathered_alone}
 use Rattle.named_store.specs.Entries.{entries_of}
 use Rattle.oathd_database.proofs.BrokenLemmas.{imported_is}
-use Rattle.oathd_floors.specs.Examples.{alone, former_of, small_cluster, taking_at}
+use Rattle.oathd_floors.specs.Examples.{alone, alone_with, former_of, small_cluster, taking_at}
 use Rattle.oathd_floors.specs.Remade.{asked_of, gather_fault}
 use Rattle.oathd_floors.proofs.BrokenLemmas.{files_are, none_gathered, none_strange, one_taken, one_untaken}
 use Rattle.oathd_floors.proofs.remade_laws.gatherings_can_be_broken.Goals as goal
@@ -74,7 +74,29 @@ pub returns-clause-too_full : goal.returns-clause-too_full
 returns-clause-too_full c text reads h =
     let files = files_are (taking_at true) (text.items ∷ []) h.has.files (alone ∷ []) h.has.gathered.taken (one_taken (taking_at true) text.items alone reads) in
     let book = (imported_is default_limits 0 11 [] [] [] refl h.has.import).0 in
-    let full : 10000 < 0 =
-    subst (λ (l : List NamedFloorsRecord). 10000 < length (remade_entries (gathered_rows l) [])) files
-    (subst (λ (b : List Credential). 10000 < length (remade_entries (gathered_rows h.has.files) (entries_of small_cluster.salt b))) book h.full) in
+    let full : 65536 < 0 =
+    subst (λ (l : List NamedFloorsRecord). 65536 < length (remade_entries (gathered_rows l) [])) files
+    (subst (λ (b : List Credential). 65536 < length (remade_entries (gathered_rows h.has.files) (entries_of small_cluster.salt b))) book h.full) in
     omega (arith, full)
+
+pub returns-clause-room : goal.returns-clause-room
+returns-clause-room c text rows reads many h =
+    let own = alone_with rows ∷ [] in
+    let files = files_are (taking_at true) (text.items ∷ []) h.has.files own h.has.gathered.taken (one_taken (taking_at true) text.items (alone_with rows) reads) in
+    let book = (imported_is default_limits 0 11 [] [] [] refl h.has.import).0 in
+    let full : 65536 < length (remade_entries (gathered_rows own) []) =
+    subst (λ (l : List NamedFloorsRecord). 65536 < length (remade_entries (gathered_rows l) [])) files
+    (subst (λ (b : List Credential). 65536 < length (remade_entries (gathered_rows h.has.files) (entries_of small_cluster.salt b))) book h.full) in
+    omega (arith, gathered_alone (gathered_rows own), many, full)
+
+pub returns-clause-no_room : goal.returns-clause-no_room
+returns-clause-no_room c text rows reads many =
+    let own = alone_with rows ∷ [] in
+    record {
+      has = record {
+        import = record { book = []; floors = []; imported = refl };
+        files = own;
+        gathered = record { taken = one_taken (taking_at true) text.items (alone_with rows) reads; enough = refl };
+      };
+      full = omega (arith, gathered_alone (gathered_rows own), many);
+    }

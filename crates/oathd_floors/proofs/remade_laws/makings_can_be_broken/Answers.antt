@@ -1,8 +1,9 @@
 -- Each promise is asked about the store that breaks it.
-use Rattle.std.proofs.Common.{◌≡◌, ℕ, ◌*◌, ◌^◌, List, [], Option, Some, None, length, refl, ap, ◌∙◌, arith}
+use Rattle.std.proofs.Common.{◌≡◌, ℕ, ◌*◌, ◌^◌, [], Option, Some, None, ap, ◌∙◌, arith}
 use Rattle.sqlite.specs.Held.{Held as Conn, state}
-use Rattle.floor_sql.specs.Broken.{small_content}
 use Rattle.floor_store.specs.Content.{Content}
+use Rattle.floors_file.specs.NamedGathered.{gathered_rows}
+use Rattle.named_floors.proofs.MadeLemmas.{gathered_alone}
 use Rattle.named_store.specs.Opened.{with_new}
 use Rattle.named_store.specs.Seating.{rows_after}
 use Rattle.roster_sql.specs.Examples.{other_bond, small_bond}
@@ -43,3 +44,9 @@ returns-clause-again_seated c h =
     let read = (none_read (state none_named named_conn).now.schema (with_new seats.roster [] [] [] grown.content) grown.passes (rows_after seats.roster []) small_bond grown.now).1 in
     let boot : 4 ≡ 10 * 2 ^ 20 = ap (λ (content : Content). content.boot) grown.seen ∙ read in
     omega (arith, boot)
+
+pub returns-clause-room : goal.returns-clause-room
+returns-clause-room c files many full = omega (arith, gathered_alone (gathered_rows files), many, full)
+
+pub returns-clause-no_room : goal.returns-clause-no_room
+returns-clause-no_room c files many = omega (arith, gathered_alone (gathered_rows files), many)

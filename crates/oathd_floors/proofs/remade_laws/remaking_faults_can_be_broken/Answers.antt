@@ -1,13 +1,8 @@
 -- Each fault is asked about the files or the users file that break it.
-use Rattle.std.proofs.Common.{◌≡◌, inl, ⊎_elim, List, [], ◌∷◌, Some, None, refl, sym, subst}
-use Rattle.std.specs.Prelude.{codes, true}
-use Rattle.floors_file.specs.Named.{NamedFloorsRecord}
-use Rattle.floors_file.specs.declared.gathered.FilesFault.{FilesFault}
-use Rattle.floors_file.specs.declared.gathered.FilesFault.TheVariants.{NotLost, TooManyLost}
-use Rattle.roster_sql.specs.Examples.{small_bond}
+use Rattle.std.proofs.Common.{inl, ⊎_elim, [], ◌∷◌, refl}
+use Rattle.std.specs.Prelude.{true}
 use Rattle.oathd_database.proofs.BrokenLemmas.{clean_is}
 use Rattle.oathd_floors.specs.Examples.{alone, no_tokens, none_seen, taking_at}
-use Rattle.oathd_floors.specs.Remade.{IsGathered, asked_of, gather_fault}
 use Rattle.oathd_floors.proofs.BrokenLemmas.{fallen_again, none_gathered, none_strange, one_taken}
 use Rattle.oathd_floors.proofs.remade_laws.remaking_faults_can_be_broken.Goals as goal
 

@@ -1,17 +1,14 @@
 -- Each promise is asked about the store that breaks it.
-use Rattle.std.proofs.Common.{◌≡◌, ℕ, ◌*◌, ◌^◌, List, [], ◌∷◌, Some, None, refl, ap, sym, subst, ◌∙◌, arith}
-use Rattle.std.specs.Prelude.{codes, true}
+use Rattle.std.proofs.Common.{◌≡◌, ℕ, ◌*◌, ◌^◌, [], ◌∷◌, refl, ap, sym, ◌∙◌, arith}
+use Rattle.std.specs.Prelude.{true}
 use Rattle.otp_core.specs.Limits.{default_limits}
-use Rattle.floors_file.specs.Named.{NamedFloorsRecord}
-use Rattle.floors_file.specs.declared.gathered.FilesFault.TheVariants.{TooManyLost}
 use Rattle.named_store.specs.Entries.{entries_of}
 use Rattle.roster_sql.specs.Examples.{small_bond}
 use Rattle.oathd_database.specs.Broken.{shows_any}
 use Rattle.oathd_database.specs.Lost.{boot_at}
 use Rattle.oathd_database.specs.Users.{drifted_floors}
 use Rattle.oathd_database.proofs.BrokenLemmas.{clean_is, fallen_is}
-use Rattle.oathd_floors.specs.Examples.{alone, former_of, named_conn, no_tokens, none_seen, small_cluster, taking_at}
-use Rattle.oathd_floors.specs.Remade.{IsGathered, asked_of, gather_fault}
+use Rattle.oathd_floors.specs.Examples.{alone, named_conn, no_tokens, none_seen, small_cluster, taking_at}
 use Rattle.oathd_floors.proofs.BrokenLemmas.{again_is, fallen_again, none_gathered, one_taken}
 use Rattle.oathd_floors.proofs.remade_laws.replacements_can_be_broken.Goals as goal
 

@@ -1,5 +1,5 @@
 -- The port of the run has the setup that it began with, and so the translator and the packer.
-use Rattle.std.proofs.Common.{◌≡◌, ◌∙◌, ℕ, List, ap, inr, refl, sym, subst}
+use Rattle.std.proofs.Common.{◌∙◌, ap, inr, refl, sym, subst}
 use Rattle.std.specs.Prelude.{IsSome}
 use Rattle.floor_port.specs.Packer.{StartRecord, new_packer}
 use Rattle.floor_port.specs.Runs.{at_start}

@@ -19,6 +19,10 @@ pub returns-clause-book : goal.returns-clause-book
 unfolding digits
 returns-clause-book c = refl
 
+pub returns-clause-rows : goal.returns-clause-rows
+unfolding digits
+returns-clause-rows c = refl
+
 pub returns-clause-times : goal.returns-clause-times
 unfolding digits
 returns-clause-times c = refl

@@ -11,6 +11,10 @@ pub returns-clause-book : goal.returns-clause-book
 unfolding digits
 returns-clause-book c = refl
 
+pub returns-clause-rows : goal.returns-clause-rows
+unfolding digits
+returns-clause-rows c = refl
+
 pub returns-clause-refused : goal.returns-clause-refused
 unfolding digits
 returns-clause-refused c = refl

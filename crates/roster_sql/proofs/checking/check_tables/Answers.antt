@@ -1,6 +1,6 @@
-use Rattle.std.proofs.Common.{◌≡◌, refl, sym, subst, rules}
+use Rattle.std.proofs.Common.{◌≡◌, ◌≤◌, refl, sym, subst, rules}
 use Rattle.sqlite.specs.Held.{state}
-use Rattle.floor_sql.specs.Schema.{schema_of, version_of}
+use Rattle.floor_sql.specs.Schema.{most_rows, schema_of, version_of}
 use Rattle.floor_sql.specs.Stored.{HoldsSelf, HoldsVersion}
 use Rattle.floor_sql.specs.Usable.{HasUsableVersion}
 use Rattle.floor_sql.proofs.ReadOnlyLemmas.{fails, finds_unusable, reads}
@@ -26,7 +26,7 @@ returns-in_err-own g c = fails c.from_residual.ensures.1 c.in_err-own.ensures.re
       node = c.args.node;
       of_node = usable.of_node;
       tokens = c.args.tokens;
-      of_tokens = c.requires;
+      of_tokens = subst (λ v. c.args.tokens ≤ most_rows v) (sym c.version-number.ensures) c.requires;
       self = subst (λ v. HasUsableVersion (state g.S.Store c.args.conn.now).now.trees v c.args.node c.args.tokens) (sym c.version-number.ensures) usable.self;
     }))
 

@@ -4,7 +4,7 @@ use Rattle.oathd.proofs.databases.Site.serve_boots.Goals as goal
 
 pub loop-boot-init : goal.loop-boot-init
 loop-boot-init g c = record {
-  few = omega (arith, c.in_ok-boot.ensures.boot.left_are, c.with_turns-first.ensures.turns, c.args.serving.few);
+  few = omega (arith, c.in_ok-boot.ensures.boot.left_are, c.args.serving.few);
   later = ([], refl);
   unlogged = λ quiet. c.serve_boot.ensures.unlogged quiet;
 }
@@ -19,13 +19,13 @@ loop-boot-preserved g c =
     record {
       few = omega (arith, less, c.loop-boot.invariant.few);
       later = (boots.0 ++ c.in_ok-boot-2.boot ∷ [], boots_more _ _ _ _ boots.0 boots.1 c.in_ok-boot-2.ensures.boot);
-      unlogged = λ quiet. c.serve_next.ensures.unlogged quiet ∙ c.loop-boot.invariant.unlogged quiet;
+      unlogged = λ quiet. c.serve_boot-in-loop-boot.ensures.unlogged quiet ∙ c.loop-boot.invariant.unlogged quiet;
     }
 
 pub returns-clause-boots : goal.returns-clause-boots
 returns-clause-boots g c = record {
-  first = c.with_turns-first.result;
-  of_turns = c.with_turns-first.ensures.turns;
+  first = _;
+  of_turns = refl;
   next = c.in_ok-boot.boot;
   is_first = c.in_ok-boot.ensures.boot;
   last = c.loop-boot.boot;

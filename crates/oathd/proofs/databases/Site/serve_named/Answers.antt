@@ -1,5 +1,4 @@
-use Rattle.std.proofs.Common.{◌≡◌, drop, refl}
-use Rattle.std.specs.Io.Cursor.{cursor_inner, cursor_position}
+use Rattle.std.proofs.Common.{◌≡◌, refl}
 use Rattle.oathd_database.specs.declared.serving.Serving.{Serving}
 use Rattle.oathd_roster.specs.declared.cluster.NamedCluster.{NamedCluster}
 use Rattle.oathd.specs.Named.{NamedEndsSo, fault_of, never}
@@ -10,7 +9,7 @@ use Rattle.oathd.proofs.databases.Site.serve_named.Goals as goal
 pub returns : goal.returns
 returns g c =
     served_named _ _ (λ (other : Serving). other ≡ c.args.serving) (λ (named : NamedCluster). named ≡ c.args.cluster.now) c.args.serving refl c.args.cluster.now refl
-    c.in_ok-moment.moment c.in_ok-moment.ensures.moment never c.in_ok-_served._served.0 _ c.in_ok-_served.ensures.served
+    c.in_ok-moment.moment c.in_ok-moment.ensures.moment never c.in_ok-_served._served.0 c.in_ok-_served.ensures.served.0 c.in_ok-_served.ensures.served.2
 
 pub returns-in_err-moment : goal.returns-in_err-moment
 returns-in_err-moment g c =
@@ -19,19 +18,19 @@ returns-in_err-moment g c =
     c.from_residual.ensures.1
     (clock_named _ _ (λ (other : Serving). other ≡ c.args.serving) (λ (named : NamedCluster). named ≡ c.args.cluster.now) fault c.in_err-moment.ensures.fault)
 
-pub returns-in_err-users : goal.returns-in_err-users
-returns-in_err-users g c =
-    let fault = c.in_err-users.field-0.0 in
-    failed_so c.from_residual-in_err-users.result fault
-    (NamedEndsSo _ _ (λ (other : Serving). other ≡ c.args.serving) (λ (named : NamedCluster). named ≡ c.args.cluster.now)) c.from_residual-in_err-users.ensures.1
+pub returns-in_err-text : goal.returns-in_err-text
+returns-in_err-text g c =
+    let fault = c.in_err-text.field-0.0 in
+    failed_so c.from_residual-in_err-text.result fault
+    (NamedEndsSo _ _ (λ (other : Serving). other ≡ c.args.serving) (λ (named : NamedCluster). named ≡ c.args.cluster.now)) c.from_residual-in_err-text.ensures.1
     (users_named _ _ (λ (other : Serving). other ≡ c.args.serving) (λ (named : NamedCluster). named ≡ c.args.cluster.now) c.args.serving refl c.args.cluster.now refl
-    c.in_ok-moment.moment c.in_ok-moment.ensures.moment fault c.in_err-users.ensures)
+    c.in_ok-moment.moment c.in_ok-moment.ensures.moment fault c.in_err-text.ensures)
 
 pub returns-in_err-_served : goal.returns-in_err-_served
 returns-in_err-_served g c =
     let fault = c.in_err-_served.field-0.0 in
-    let text = drop (cursor_position c.in_ok-users.users) (cursor_inner c.in_ok-users.users).items in
+    let ends = c.in_err-_served.ensures.fault in
     failed_so c.from_residual-in_err-_served.result (fault_of fault)
     (NamedEndsSo _ _ (λ (other : Serving). other ≡ c.args.serving) (λ (named : NamedCluster). named ≡ c.args.cluster.now)) c.from_residual-in_err-_served.ensures.1
     (ended_named _ _ (λ (other : Serving). other ≡ c.args.serving) (λ (named : NamedCluster). named ≡ c.args.cluster.now) c.args.serving refl c.args.cluster.now refl
-    c.in_ok-moment.moment c.in_ok-moment.ensures.moment fault text c.in_err-_served.ensures.fault)
+    c.in_ok-moment.moment c.in_ok-moment.ensures.moment fault ends.0 ends.2)

@@ -1,9 +1,9 @@
-//! A port over a port in memory.
+//! A port that joins datagrams, over a port in memory.
 
 ghost use Rattle.std.specs.Prelude.{◌≤◌, IfOk};
 ghost use Rattle.datagram_port.specs.Port.{IsWithin};
 
-use crate::{BundlePort, is_bundle};
+use bundle_port::{BundlePort, is_bundle};
 use datagram_port::{Coming, ListPort, Port, PortEntry, Received, Sender};
 use node_log::Gatekeeper;
 use std::alloc::Global;
@@ -93,31 +93,46 @@ fn datagrams_are_joined(rt: HostRuntime) -> Result<(), Fail> {
     Ok(())
 }
 
-/// Two datagrams to a member wait. A flush offers them as one bundle, and the next receive offers nothing again.
-#[test]
-fn flush_offers_what_waits(rt: HostRuntime) -> Result<(), Fail> {
-    let mut port = BundlePort::new(ListPort::new(rt.alloc(), &[]));
-    assert!(rt; port.send(Sender::Peer(2), FIRST));
-    assert!(rt; port.send(Sender::Peer(2), SECOND));
-    assert!(rt; port.port.record().ok_or("a record")?.is_empty());
-    port.flush();
-    let entries = port.port.record().ok_or("a record")?;
-    assert!(rt; entries.len() == 1);
-    assert!(rt; is_offer(&entries[0], Sender::Peer(2), &bundle_of_two()));
-    wait(&mut port, 1);
-    let below = port.into_inner();
-    let entries = below.record().ok_or("a record")?;
-    assert!(rt; entries.len() == 2);
-    assert!(rt; entries[1] == PortEntry::Quiet);
-    Ok(())
-}
-
 /// Waits the given number of times.
 fn wait<P: Port + Drop>(port: &mut BundlePort<P>, times: u32) {
     let mut buffer = [0; 512];
     for _ in 0..times {
         port.receive(&mut buffer);
     }
+}
+
+/// Returns whether the first of a port's events is the offer of the bundle of two to member 2.
+fn begins_with_bundle(entries: &[PortEntry]) -> bool {
+    match entries.first() {
+        Some(entry) => is_offer(entry, Sender::Peer(2), &bundle_of_two()),
+        None => false,
+    }
+}
+
+/// Sends two datagrams to member 2, flushes and waits so many times. Returns the number of events of the port below,
+/// and whether the first one is the offer of the bundle and the last one a quiet receive.
+fn events_of_two(alloc: Global, flushes: u32, waits: u32) -> Result<(usize, bool, bool), Fail> {
+    let mut port = BundlePort::new(ListPort::new(alloc, &[]));
+    if !port.send(Sender::Peer(2), FIRST) || !port.send(Sender::Peer(2), SECOND) {
+        return Err(Fail::new("a datagram is refused"));
+    }
+    for _ in 0..flushes {
+        port.flush();
+    }
+    wait(&mut port, waits);
+    let below = port.into_inner();
+    let entries = below.record().ok_or("a record")?;
+    let ends_quiet = entries.last() == Some(&PortEntry::Quiet);
+    Ok((entries.len(), begins_with_bundle(entries), ends_quiet))
+}
+
+/// Two datagrams to a member wait. A flush offers them as one bundle, and the next receive offers nothing again.
+#[test]
+fn flush_offers_what_waits(rt: HostRuntime) -> Result<(), Fail> {
+    assert!(rt; events_of_two(rt.alloc(), 0, 0)? == (0, false, false));
+    assert!(rt; events_of_two(rt.alloc(), 1, 0)? == (1, true, false));
+    assert!(rt; events_of_two(rt.alloc(), 1, 1)? == (2, true, true));
+    Ok(())
 }
 
 /// After eight calm waits the first datagram to a member is offered at once, and the later ones are joined.

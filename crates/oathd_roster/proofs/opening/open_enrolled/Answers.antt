@@ -1,0 +1,16 @@
+use Rattle.std.proofs.Common.{subst, sym}
+use Rattle.oathd_roster.specs.Enrolled.{IsOpenedFor}
+use Rattle.oathd_roster.specs.declared.users.NamedUsers.{NamedUsers}
+use Rattle.oathd_roster.proofs.EnrolledLemmas.{opened_before}
+use Rattle.oathd_roster.proofs.opening.open_enrolled.Goals as goal
+
+pub returns-in-Ok-open_for-clause-opened : goal.returns-in-Ok-open_for-clause-opened
+returns-in-Ok-open_for-clause-opened g c =
+    let given = c.in-Ok.named in
+    let store = c.in-Ok-open_for.store in
+    let counts = c.in-Ok-open_for.counts in
+    let cluster = c.args.cluster.now in
+    subst (λ (named : NamedUsers). IsOpenedFor g.S.Store cluster c.args.settings c.args.moment c.args.conn c.args.node named.users.book named.users.floors.items store counts)
+    (sym c.in-Ok-open_for.ensures.users)
+    (opened_before g.S.Store c.args.conn c.in_ok-conn.conn c.in_ok-conn.ensures.kept cluster c.args.settings c.args.node c.args.moment given.users.book
+    given.users.floors.items store counts c.in-Ok-open_for.ensures.opened)
