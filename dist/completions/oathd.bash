@@ -23,7 +23,8 @@ _oathd() {
         serve)
             options='--node --cluster --members --key --look-ahead --skew --range --drift --clients --plain-lines'
             options+=' --turns --forever --log --log-to --reload' files=yes ;;
-        export | audit | gates | unlock | roster) options='--node --cluster' files=yes ;;
+        export | audit | gates | unlock) options='--node --cluster' files=yes ;;
+        roster) options='--node --cluster --drop-retired' files=yes ;;
         migrate) options='--node --cluster --members-were' files=yes ;;
         floors) options='--node --members --cluster' files=yes ;;
         level) options='--node --floors --cluster' files=yes ;;

@@ -42,6 +42,7 @@ complete -c oathd -n '__fish_seen_subcommand_from status drain' -l operator -r -
 complete -c oathd -n $serving -l members -x -d 'Addresses in order of their numbers'
 complete -c oathd -n '__fish_seen_subcommand_from floors' -l members -x -a '1 2 3 4 5 6 7 8 9' -d 'How many members there are'
 complete -c oathd -n '__fish_seen_subcommand_from migrate' -l members-were -x -a '1 2 3 4 5 6 7 8 9' -d 'How many members there were until now'
+complete -c oathd -n '__fish_seen_subcommand_from roster' -l drop-retired -d 'Drop rows of retired tokens'
 complete -c oathd -n $made -l lost -x -d 'Numbers of all lost nodes'
 complete -c oathd -n $made -l anew -d 'All databases are replaced'
 complete -c oathd -n '__fish_seen_subcommand_from init level' -l floors -r -F -d 'Floors file of another node'

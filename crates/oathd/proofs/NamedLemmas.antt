@@ -31,6 +31,7 @@ use Rattle.oathd_words.specs.declared.store_words.ClusterWords.{ClusterWords}
 use Rattle.oathd.specs.Done.{IsServedSo, IsServedWith}
 use Rattle.oathd.specs.Reload.{IsReloaded}
 use Rattle.oathd.specs.Named.{ActsFor, AreNamedFloorsTold, AreNamesIn, EndsBy, EndsByNames, EndsSo, IsActDone, IsFormerOf, IsKeyOf, IsMemberByNames, IsNamedOf, IsRemadeByNames, IsServedByNames, NamedEndsSo, fault_of, names_asked, names_in}
+use Rattle.oathd_floors.specs.Dropped.{HasDropped}
 use Rattle.oathd_floors.specs.Levelled.{HasLevelled}
 use Rattle.oathd_floors.specs.Named.{HasNamed}
 use Rattle.oathd_floors.specs.Remade.{HasRemade}
@@ -90,6 +91,10 @@ module _ {S : Type 0} (g : Ghosts S) (finds : sql.Held S → Type 0) where
 
     pub told_roster : HasToldRoster g finds named settings 16777216 node old new users → ActsFor g finds text acts.Roster settings place named old new
     told_roster h = (users, subst (λ (n : ℕ). HasToldRoster g finds named settings 16777216 n old new users) same h)
+
+    pub dropped : (conn : sql.Held S) → HasDropped g finds named settings 16777216 node old new conn users
+        → ActsFor g finds text acts.DropRetired settings place named old new
+    dropped conn h = (users, (conn, subst (λ (n : ℕ). HasDropped g finds named settings 16777216 n old new conn users) same h))
 
     pub unlocked : (user : Bor (List ℕ)) (store : SqlHeld S) → UnlocksNamed g finds named settings 16777216 node user.now store users
         → ActsFor g finds text (acts.Unlock user) settings place named old new

@@ -18,6 +18,7 @@ use Rattle.oathd_database.specs.declared.fault.Fault.TheVariants.{Memory, Cannot
 use Rattle.oathd_database.specs.declared.serving.Serving.{Serving}
 use Rattle.oathd_words.specs.declared.store_words.NamedAct.{NamedAct}
 use Rattle.oathd_words.specs.declared.store_words.NamedAct.TheVariants as acts
+use Rattle.oathd_floors.specs.Dropped.{HasDropped}
 use Rattle.oathd_floors.specs.Levelled.{HasLevelled}
 use Rattle.oathd_floors.specs.Named.{HasNamed}
 use Rattle.oathd_floors.specs.Remade.{HasRemade}
@@ -166,6 +167,8 @@ module _ {S : Type 0} (g : Ghosts S) (finds : sql.Held S → Type 0) where
       (store : SqlHeld S) × UnlocksNamed g finds named settings 16777216 place.me user.now store users
   Acts text acts.Roster settings place named old new users =
       HasToldRoster g finds named settings 16777216 place.me old new users
+  Acts text acts.DropRetired settings place named old new users =
+      (conn : sql.Held S) × HasDropped g finds named settings 16777216 place.me old new conn users
   Acts text (acts.Migrate members) settings place named old new users =
       (members ≡ Some place.n)
       × ((conn : sql.Held S) × HasNamed g finds named default_limits 16777216 place.me conn users)

@@ -21,7 +21,9 @@ use floors_file::MAX_NAMED_FLOORS_LEN;
 use oath_node::Never;
 use oathd_causes::NamesFault;
 use oathd_database::{DatabaseFile, KeptSocket, Serving};
-use oathd_floors::{Former, level_named_store, name_store, remake_named_store, tell_named_floors};
+use oathd_floors::{
+    Former, drop_retired_rows, level_named_store, name_store, remake_named_store, tell_named_floors,
+};
 use oathd_roster::{NamedCluster, begin_store, serve_named_store};
 use oathd_seats::{
     audit_named_store, export_named_store, gates_named_store, roster_named_store,
@@ -233,6 +235,24 @@ impl<'a> Site<'_, 'a> {
         Ok(())
     }
 
+    /// Drops the rows of retired tokens whose floors other rows keep, and prints how many.
+    fn drop_named<S: Start, O: Write>(
+        &self,
+        start: S,
+        settings: Settings,
+        place: Place,
+        named: &NamedCluster,
+        held: &mut O,
+    ) -> Result<(), Fault<'a>>
+        ensures { IfOk result (λ _. ActsFor ⟦<FileStore<FileFrom<S>> as Store>⟧ (FindsFiles (image_at S.Start))
+            self.now.cluster.now acts.DropRetired settings place named.now (O.contents held.old)
+            (O.contents held.new)) }
+    {
+        let (alloc, users, found) = (self.alloc, self.users_alone()?, self.found(start));
+        let _conn = drop_retired_rows(alloc, users, settings, place.me(), named, found, held)?;
+        Ok(())
+    }
+
     /// Clears the failures of a user.
     fn unlock_named<S: Start>(
         &self,
@@ -386,6 +406,7 @@ impl<'a> Site<'_, 'a> {
             NamedAct::Gates => self.gates_named(start, settings, place, &named, held),
             NamedAct::Unlock { user } => self.unlock_named(start, settings, place, &named, user),
             NamedAct::Roster => self.roster_named(start, settings, place, &named, held),
+            NamedAct::DropRetired => self.drop_named(start, settings, place, &named, held),
             NamedAct::Migrate { members_were } => {
                 self.migrate_named(start, settings, place, &named, members_were)
             }

@@ -1,4 +1,5 @@
 pub mod BrokenLemmas
+pub mod DroppedLemmas
 pub mod FaultLemmas
 pub mod FilesLemmas
 pub mod KindLemmas

@@ -1,3 +1,4 @@
+pub mod Dropped
 pub mod Examples
 pub mod Fault
 pub mod Files

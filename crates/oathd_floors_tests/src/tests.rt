@@ -7,8 +7,8 @@ use floor_store::StoreFault;
 use floors_file::{FileFault, FilesFault, FloorsFault, LineFault};
 use oathd_database::{Database, Fault, init_store};
 use oathd_floors::{
-    Former, NamedFloorsFault, NamingFault, level_named_store, name_store, remake_named_store,
-    tell_named_floors,
+    Former, NamedFloorsFault, NamingFault, drop_retired_rows, level_named_store, name_store,
+    remake_named_store, tell_named_floors,
 };
 use oathd_roster::{NamedCluster, RosterFault, read_named_users};
 use otp_core::{Next, Settings};
@@ -138,16 +138,37 @@ fn entries(alloc: Global, cluster: &NamedCluster) -> Result<[Entry; 3], RosterFa
 /// Creates the store of node 3 at boot 7, with the floors 20, 30 and 40.
 fn made(alloc: Global, cluster: &NamedCluster) -> Result<InMemory, RosterFault> {
     let entries = entries(alloc, cluster)?;
-    let InMemory(mut conn) = empty(alloc)?;
     let (Some(first), Some(second), Some(third)) = (Next::new(20), Next::new(30), Next::new(40))
     else {
         return Err(RosterFault::Full);
     };
-    if !conn.is_autocommit() {
+    made_of(alloc, cluster, &entries, &[first, second, third])
+}
+
+/// Creates the same store with a row more: the token of the first row had another name, and the floor 20.
+fn made_with_former(alloc: Global, cluster: &NamedCluster) -> Result<InMemory, RosterFault> {
+    let [silver, retired, ann] = entries(alloc, cluster)?;
+    let (Some(first), Some(second), Some(third)) = (Next::new(20), Next::new(30), Next::new(40))
+    else {
+        return Err(RosterFault::Full);
+    };
+    let name = [5; NAME_LEN];
+    let entries = [silver, Entry { name, ..silver }, retired, ann];
+    made_of(alloc, cluster, &entries, &[first, first, second, third])
+}
+
+/// Creates the store of node 3 at boot 7, with these entries and floors.
+fn made_of(
+    alloc: Global,
+    cluster: &NamedCluster,
+    entries: &[Entry],
+    floors: &[Next],
+) -> Result<InMemory, RosterFault> {
+    let InMemory(mut conn) = empty(alloc)?;
+    if !conn.is_autocommit() || floors.len() > 9 || entries.len() != floors.len() {
         return Err(RosterFault::Full);
     }
-    let floors = [first, second, third];
-    match make_named(&mut conn, 3, 7, &floors, &entries, &cluster.bond) {
+    match make_named(&mut conn, 3, 7, floors, entries, &cluster.bond) {
         Ok(()) => Ok(InMemory(conn)),
         Err(refusal) => Err(RosterFault::from(refusal.0)),
     }
@@ -243,6 +264,32 @@ fn named(alloc: Global, users: &[u8], cluster: &NamedCluster) -> Result<Vec<u8>,
     let conn = name_store(alloc, users, 3, cluster, closed(store))?;
     let text = told(alloc, 3, cluster, InMemory(conn))?;
     Ok(text)
+}
+
+/// Returns what is written when needless rows are dropped, and the store's floors file then.
+fn dropped(
+    alloc: Global,
+    cluster: &NamedCluster,
+    database: InMemory,
+) -> Result<(Vec<u8>, Vec<u8>), RosterFault> {
+    let (settings, mut written) = (Settings::default(), Vec::new(alloc));
+    let conn = drop_retired_rows(alloc, USERS, settings, 3, cluster, database, &mut written)?;
+    let text = told(alloc, 3, cluster, InMemory(conn))?;
+    Ok((written, text))
+}
+
+/// The former row of a token is dropped. The row of a token that left is not.
+#[test]
+fn needless_rows_are_dropped(rt: HostRuntime) -> Result<(), Fail> {
+    let alloc = rt.alloc();
+    let own = cluster_in(b"1").ok_or("range")?;
+    let (written, text) = dropped(alloc, &own, made_with_former(alloc, &own)?)?;
+    assert!(rt; written.as_slice() == b"dropped 1\nrows 3 of 65536\n".as_slice());
+    assert!(rt; text.as_slice() == TOLD);
+    let (written, text) = dropped(alloc, &own, made(alloc, &own)?)?;
+    assert!(rt; written.as_slice() == b"dropped 0\nrows 3 of 65536\n".as_slice());
+    assert!(rt; text.as_slice() == TOLD);
+    Ok(())
 }
 
 #[test]

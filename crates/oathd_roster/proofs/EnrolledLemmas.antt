@@ -1,6 +1,6 @@
 -- The rows of a users file whose tokens have rows in a store.
 use Rattle.std.proofs.Common.{◌≡◌, ◌∙◌, ℕ, ◌+◌, ◌<◌, Bool, true, false, cond, ◌||◌, List, [], ◌∷◌, ◌++◌, length, map, take, get_or, slice_get, refl, ap, sym, subst, append_assoc, arith}
-use Rattle.std.specs.Prelude.{Result, Err}
+use Rattle.std.specs.Prelude.{◌≢◌, Result, Ok, Err}
 use Rattle.std.specs.Borrow.{Bor}
 use Rattle.std.specs.BTreeSet.{BTreeSet, Updates, contains}
 use Rattle.std.specs.Cmp.Lexicographic.{slice_cmp}
@@ -33,7 +33,7 @@ use Rattle.named_store.specs.declared.fault.NamedFault.TheVariants as named
 use Rattle.named_store.specs.declared.opening.RowCounts.{RowCounts}
 use Rattle.seated_store.specs.Seated.{SeatedRecord}
 use Rattle.token_file.specs.Credential.{Credential}
-use Rattle.token_file.specs.UsersFile.{Import, book_of, instant_of, is_of_text}
+use Rattle.token_file.specs.UsersFile.{Import, book_of, import_of, instant_of, is_of_text}
 use Rattle.token_file.specs.declared.fault.FileFault.{FileFault}
 use Rattle.token_file.specs.declared.fault.LineFault.{LineFault}
 use Rattle.oathd_database.specs.Fault.{IsOpenFault}
@@ -97,6 +97,18 @@ module _ (salt : List ℕ) (limits : Limits) (roster : List Entry) (line : List 
   line_unread outer inner fault one two unnamed told =
       line_faulty (fault.line, fault.kind)
       ((subst (λ (x : RosterFault). IsUnnamed salt limits 0 16777216 x line) (one ∙ ap Command two) unnamed).0 told)
+
+-- the tokens of an outcome
+abbrev book_in : Result Import (ℕ × LineFault) → List Credential
+book_in (Ok import) = import.book
+book_in (Err fault) = []
+
+-- a text with tokens is not empty
+pub text_has : (limits : Limits) (moment : ℕ) (book : List Credential) (floors text : List ℕ) → IsImported limits moment 16777216 book floors text
+    → (length book ≡ 0 → ⊥) → text ≢ []
+text_has limits moment book floors text read many none =
+    many (sym (ap (λ (o : Result Import (ℕ × LineFault)). length (book_in o))
+    (subst (λ (t : List ℕ). book_of 16777216 (instant_of limits moment) t ≡ Ok (import_of book floors)) none read)))
 
 -- ---- lines
 

@@ -1,5 +1,5 @@
 -- The rows of a users file whose tokens have rows in a store, and the text for which a node is served.
-use Rattle.std.specs.Prelude.{◌≡◌, ◌⊎◌, ℕ, Bool, false, List, [], Option, None, Some, Result, Ok, Err, length, slice_get}
+use Rattle.std.specs.Prelude.{◌≡◌, ◌≢◌, ◌⊎◌, ℕ, Bool, false, List, [], Option, None, Some, Result, Ok, Err, length, slice_get}
 use Rattle.std.specs.BTreeSet.{BTreeSet, contains}
 use Rattle.std.specs.Global.{Vec}
 use Rattle.std.specs.Cmp.Lexicographic.{slice_cmp}
@@ -91,6 +91,8 @@ module _ {S : Type 0} (g : Ghosts S) (cluster : NamedCluster) (limits : Limits) 
   -- The store of `node` has no room for the new tokens of a users file. The kept text has its other rows.
   pub record HasKeptRows (finds : sql.Held S → Type 0) (moment node : ℕ) (text kept : List ℕ) : Type 0 where
     pub no_room : IsKeptOut g finds cluster limits moment 16777216 node named.Full text
+    -- a row is kept
+    pub some : kept ≢ []
     pub conn : sql.Held S
     pub found : HasCleanDisk (sql.state g conn) → finds conn
     pub rows : KeepsRows conn node text kept

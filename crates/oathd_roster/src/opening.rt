@@ -2,7 +2,7 @@
 //!
 //! Floor: the first free factor of a token at a node.
 
-ghost use Rattle.std.specs.Prelude.{◌≡◌, ℕ, List, false, IfErr, IfOk};
+ghost use Rattle.std.specs.Prelude.{◌≡◌, ◌≢◌, [], ℕ, List, false, IfErr, IfOk};
 ghost use Rattle.otp_core.specs.Range.{IsMoment};
 ghost use Rattle.floor_sql.specs.Calls.{KeepsTables};
 ghost use Rattle.named_store.specs.Entries.{entries_of};
@@ -155,6 +155,7 @@ fn open_enrolled<S: Alter + Drop>(
         opened.0.users.book opened.0.users.floors.items opened.1 opened.2) }
     ensures rows { IfOk result (λ opened.
         KeepsRows S.Store cluster.now settings conn node text.now opened.4.items) }
+    ensures some { IfOk result (λ opened. opened.4.items ≢ []) }
     ensures fault { IfErr result IsRowsFault }
 {
     let (conn, kept) = rows_in(alloc, conn, text, settings, node, cluster)?;

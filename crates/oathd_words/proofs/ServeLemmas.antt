@@ -58,7 +58,8 @@ module _ (found : Found) where
   no_act acts.Audit asks = apart (codes "serve") _ _ asks refl (lit< tt)
   no_act acts.Gates asks = apart (codes "serve") _ _ asks refl (lit< tt)
   no_act (acts.Unlock user) asks = apart (codes "serve") _ _ refl asks.0 (lit< tt)
-  no_act acts.Roster asks = apart (codes "serve") _ _ asks refl (lit< tt)
+  no_act acts.Roster asks = apart (codes "serve") _ _ asks.0 refl (lit< tt)
+  no_act acts.DropRetired asks = apart (codes "serve") _ _ asks.0 refl (lit< tt)
   no_act (acts.Migrate members) asks = apart (codes "serve") _ _ asks.0 refl (lit< tt)
   no_act (acts.Level floors) asks = apart (codes "serve") _ _ asks.0 refl (lit< tt)
 

@@ -43,6 +43,7 @@ act_name acts.Audit = codes "audit"
 act_name acts.Gates = codes "gates"
 act_name (acts.Unlock user) = codes "unlock"
 act_name acts.Roster = codes "roster"
+act_name acts.DropRetired = codes "roster"
 act_name (acts.Migrate members) = codes "migrate"
 act_name (acts.Level floors) = codes "level"
 
@@ -71,6 +72,7 @@ act_stored acts.Audit = refl
 act_stored acts.Gates = refl
 act_stored (acts.Unlock user) = refl
 act_stored acts.Roster = refl
+act_stored acts.DropRetired = refl
 act_stored (acts.Migrate members) = refl
 act_stored (acts.Level floors) = refl
 
@@ -93,7 +95,8 @@ act_so name found acts.Export asks = asks
 act_so name found acts.Audit asks = asks
 act_so name found acts.Gates asks = asks
 act_so name found (acts.Unlock user) asks = asks.0
-act_so name found acts.Roster asks = asks
+act_so name found acts.Roster asks = asks.0
+act_so name found acts.DropRetired asks = asks.0
 act_so name found (acts.Migrate members) asks = asks.0
 act_so name found (acts.Level floors) asks = asks.0
 

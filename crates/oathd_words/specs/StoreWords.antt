@@ -118,6 +118,10 @@ has_log (Syslog address) = true
 abbrev pub begins : Found → Bool
 begins found = is_flag (first_value found (codes "begins"))
 
+-- whether rows of retired tokens are dropped
+abbrev pub drops : Found → Bool
+drops found = is_flag (first_value found (codes "drop-retired"))
+
 -- the number of members that a cluster had until now, or None without the option
 abbrev pub GivesFormerCount : Found → Option ℕ → Type 0
 GivesFormerCount found None = first_value found (codes "members-were") ≡ None
@@ -133,7 +137,8 @@ AsksForAct name found acts.Audit = name ≡ codes "audit"
 AsksForAct name found acts.Gates = name ≡ codes "gates"
 AsksForAct name found (acts.Unlock user) =
     (name ≡ codes "unlock") × (first_value found (codes "USER") ≡ Some user.now)
-AsksForAct name found acts.Roster = name ≡ codes "roster"
+AsksForAct name found acts.Roster = (name ≡ codes "roster") × (drops found ≡ false)
+AsksForAct name found acts.DropRetired = (name ≡ codes "roster") × (drops found ≡ true)
 AsksForAct name found (acts.Migrate members) = (name ≡ codes "migrate") × GivesFormerCount found members
 AsksForAct name found (acts.Level floors) =
     (name ≡ codes "level") × (values_given found (codes "floors") ≡ Some (map (λ path. path.now) floors.items))

@@ -281,6 +281,15 @@ this line for each row of the store:
 NAME is the name of the token by the cluster file, and FLOOR its first factor
 that is not used up. USER is - for a retired token, which is in no row of USERS.
 
+With --drop-retired it drops the row of each retired token whose secret another
+row has with a greater floor, or a row of USERS with one that is not lower. Then
+it prints how many rows it dropped, and how many there are:
+    dropped D
+    rows N of 65536
+A dropped token that comes back begins at the floor that the other row has. The
+rows get other numbers. Passes of dropped rows leave the audit list, so print it
+first.
+
 The status is 3 if the database fails, or holds no store of node I.";
 
 /// The usage of the command `status`, in its two forms.

@@ -217,12 +217,18 @@ pub fn named_words_are_worked()
         → AsksForAction (codes "init") found (usual_remake former) → ⊥ }
 
     ensures acts { (found : Found) → AsksForAct (codes "export") found acts.Export
-        × AsksForAct (codes "audit") found acts.Audit × AsksForAct (codes "gates") found acts.Gates
-        × AsksForAct (codes "roster") found acts.Roster }
+        × AsksForAct (codes "audit") found acts.Audit × AsksForAct (codes "gates") found acts.Gates }
     ensures acts_of_others { (found : Found) → (AsksForAct (codes "audit") found acts.Export → ⊥)
         × (AsksForAct (codes "gates") found acts.Audit → ⊥) × (AsksForAct (codes "roster") found acts.Gates → ⊥)
         × (AsksForAct (codes "export") found acts.Roster → ⊥) × (AsksForAct (codes "roster") found acts.Begin → ⊥)
         × (AsksForAct (codes "level") found (acts.Migrate None) → ⊥) }
+    ensures drops { (found : Found) (value : MatchedArg)
+        → found.entries.items ≡ (word (codes "drop-retired"), value) ∷ []
+        → value.vals.items ≡ word (codes "true") ∷ []
+        → AsksForAct (codes "roster") found acts.DropRetired × (AsksForAct (codes "roster") found acts.Roster → ⊥)
+        × (AsksForAct (codes "gates") found acts.DropRetired → ⊥) }
+    ensures drops_nothing { (found : Found) → found.entries.items ≡ []
+        → AsksForAct (codes "roster") found acts.Roster × (AsksForAct (codes "roster") found acts.DropRetired → ⊥) }
     ensures migrate { (found : Found) → GivesMember found (codes "members-were") 3
         → AsksForAct (codes "migrate") found (acts.Migrate (Some 3))
         × (AsksForAct (codes "migrate") found (acts.Migrate (Some 2)) → ⊥) }

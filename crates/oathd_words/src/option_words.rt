@@ -441,6 +441,14 @@ pub(crate) const BEGINS: FlagWord = FlagWord {
     help: "The cluster never served, and its cluster file gives names",
 };
 
+/// The flag that drops rows of retired tokens.
+pub(crate) const DROP_RETIRED: FlagWord = FlagWord {
+    name: "drop-retired",
+    conflicts: &[],
+    needs: &[],
+    help: "Drops rows of retired tokens, in place of printing rows",
+};
+
 /// The floors files of the other nodes, from which a replacement is made.
 pub(crate) const FORMER_FLOORS: ListWord = ListWord {
     name: "floors",

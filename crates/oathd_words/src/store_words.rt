@@ -113,6 +113,8 @@ pub enum NamedAct<'a> {
     },
     /// Prints its rows.
     Roster,
+    /// Drops the rows of retired tokens whose floors other rows keep.
+    DropRetired,
     /// Upgrades it from a store without names.
     Migrate {
         /// The number of members that the cluster had until now, 1 to 9, or `None` if it is not given.
@@ -659,7 +661,11 @@ fn roster_action<'a>(matches: &ArgMatches<'a>) -> Option<Action<'a>>
 {
     let node = member_number(matches, "node")?;
     let path = matches.get_str("cluster")?;
-    let act = NamedAct::Roster;
+    let act = if is_given(matches, "drop-retired") {
+        NamedAct::DropRetired
+    } else {
+        NamedAct::Roster
+    };
     Some(Action::Named { node, path, act })
 }
 

@@ -67,6 +67,7 @@ returns-in_ok-named-in-Err-default-Full-clause-text g c =
     full.field-0-1-is (full.ensures.fault text c.in_ok-named.ensures.imported) in
     inr (record {
       no_room = kept_out_in g.S.Store g.D.Database.finds cluster c.args.settings c.args.moment conn c.args.node named.Full text c.in_ok-conn.ensures.found refused;
+      some = opened.ensures.some;
       conn = conn;
       found = c.in_ok-conn.ensures.found;
       rows = kept_before g.S.Store conn full.conn (full.ensures.full full.field-0-1-is) cluster c.args.settings c.args.node text opened.kept.items opened.ensures.rows;

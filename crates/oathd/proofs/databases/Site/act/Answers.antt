@@ -21,6 +21,10 @@ pub returns-in-Roster : goal.returns-in-Roster
 returns-in-Roster g c =
     act_done _ _ c.args.node c.args.act _ c.args.self.now.cluster.now _ _ _ _ _ c.roster_named.result c.in-Roster.is c.in_ok-settings.ensures c.roster_named.ensures
 
+pub returns-in-DropRetired : goal.returns-in-DropRetired
+returns-in-DropRetired g c =
+    act_done _ _ c.args.node c.args.act _ c.args.self.now.cluster.now _ _ _ _ _ c.drop_named.result c.in-DropRetired.is c.in_ok-settings.ensures c.drop_named.ensures
+
 pub returns-in-Unlock : goal.returns-in-Unlock
 returns-in-Unlock g c =
     act_done _ _ c.args.node c.args.act _ c.args.self.now.cluster.now _ _ _ _ _ c.unlock_named.result c.in-Unlock.is c.in_ok-settings.ensures (c.unlock_named.ensures (g.O.Write.contents c.args.held.now) (g.O.Write.contents c.args.held.now))

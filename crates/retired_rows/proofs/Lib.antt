@@ -1,0 +1,3 @@
+pub mod GreatestLemmas
+pub mod StayLemmas
+pub mod RenewLemmas

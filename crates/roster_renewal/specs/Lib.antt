@@ -1,0 +1,3 @@
+pub mod Text
+pub mod Renewed
+pub mod Examples
