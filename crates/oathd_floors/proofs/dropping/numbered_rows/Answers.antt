@@ -1,4 +1,3 @@
-use Rattle.std.proofs.Common.{arith}
 use Rattle.oathd_floors.proofs.DroppedLemmas.{numbered_next}
 use Rattle.oathd_floors.proofs.dropping.numbered_rows.Goals as goal
 
