@@ -1,5 +1,5 @@
--- A store without the rows of retired tokens that other rows make needless. Floor: the first free factor of a token at a
--- node.
+-- A store without the rows of retired tokens that other rows make needless. Floor: the first free factor of a token at
+-- a node.
 use Rattle.std.specs.Prelude.{◌≡◌, ◌⊎◌, ℕ, ◌+◌, ◌-◌, ◌≤◌, List, [], ◌∷◌, ◌++◌, codes, length, map, slice_get, Option, Some, Ok}
 use Rattle.std.specs.Fmt.{decimal}
 use Rattle.std.specs.Io.KnownBytes.{Appends}
@@ -35,7 +35,8 @@ use Rattle.oathd_floors.specs.Rows.{HasRows, IsUnbound}
 
 -- a row of a store, with its number, and whether a users file has its token
 abbrev pub numbered_row : ℕ → Entry → RowRecord → List Entry → NumberedRow
-numbered_row token entry row names = record { token = token; entry = entry; row = row; is_named = has_name names entry.name }
+numbered_row token entry row names =
+    record { token = token; entry = entry; row = row; is_named = has_name names entry.name }
 
 -- the rows of a store with their numbers from `first` on
 abbrev pub numbered : ℕ → List Entry → List RowRecord → List Entry → List NumberedRow
@@ -54,8 +55,8 @@ dropped_text rows = drop_text (length rows - length (staying rows)) (length (sta
 
 -- ---- the store
 
--- The tables are of a store of `node` that is bound to `own`. A token that is enrolled there begins at a floor that is not
--- lower than that of any of these rows with its seed.
+-- The tables are of a store of `node` that is bound to `own`. A token that is enrolled there begins at least at the
+-- floor of each of the given rows with its seed.
 pub record ForgetsNone (node : ℕ) (own : BondRecord) (rows : List NumberedRow) (db : Database) : Type 0 where
   pub roster : List Entry
   pub content : Content

@@ -6,20 +6,20 @@ ghost use Rattle.floor_store.specs.Examples.{free_row, granted_row};
 ghost use Rattle.floor_store.specs.declared.fault.StoreFault.TheVariants.{Disk};
 ghost use Rattle.oathd_database.specs.Broken.{fallen, no_users, shows_any, shows_none, users_fault};
 ghost use Rattle.oathd_database.specs.declared.fault.Fault.TheVariants.{CannotWrite, Memory, NoClock, Socket, Store};
-ghost use Rattle.oathd_floors.specs.Dropped.{ForgetsNone, HasDropped, IsLeft, IsNotDropped, IsRenewed, drop_text, numbered, numbered_row};
+ghost use Rattle.oathd_floors.specs.Dropped.{ForgetsNone, HasDropped, IsLeft, IsNotDropped, IsRenewed, drop_text, dropped_text, numbered, numbered_row};
 ghost use Rattle.oathd_floors.specs.Examples.{named_conn, named_store, one_entry, one_named, small_cluster};
 ghost use Rattle.oathd_roster.specs.declared.fault.RosterFault.TheVariants.{AnotherCluster, Command, Full, SameName};
 ghost use Rattle.otp_core.specs.Limits.{default_limits};
 ghost use Rattle.retired_rows.specs.Staying.{staying};
 ghost use Rattle.retired_rows.specs.declared.row.NumberedRow.{NumberedRow};
-ghost use Rattle.roster_sql.specs.Examples.{entry_of, first_content, small_bond};
+ghost use Rattle.roster_sql.specs.Examples.{entry_of, first_content, one_token, other_bond, small_bond};
 ghost use Rattle.roster_sql.specs.Roster.{BondRecord};
 ghost use Rattle.token_file.specs.declared.fault.LineFault.TheVariants.{MissingField};
 
 use sqlite::Alter;
 
-/// A drop forgets no floor. A token that is enrolled afterwards begins at a floor that is not lower than that of any row
-/// of its device, also of a dropped one.
+/// A drop forgets no floor. A token that is enrolled afterwards begins at least at the floor of each former row of its
+/// device, also of a dropped one.
 pub fn drops_forget_no_floor<S: Alter>()
     ensures { (node boot : ℕ) (own : BondRecord) (rows : List NumberedRow) (store : SqlHeld S) (new : Conn S)
         → HasCleanDisk (state S.Store new) → IsRenewed S.Store node own boot (staying rows) store new
@@ -41,11 +41,19 @@ pub fn drops_are_worked()
     ensures no_rows { numbered 0 [] [] (entry_of 1 2 ∷ []) ≡ [] }
     ensures row_without_an_entry { numbered 0 [] (free_row 5 ∷ []) [] ≡ [] }
     ensures entry_without_a_row { numbered 0 (entry_of 1 2 ∷ []) [] [] ≡ [] }
+    ensures counts { dropped_text (numbered_row 0 (entry_of 1 2) (free_row 5) []
+        ∷ numbered_row 1 (entry_of 3 2) (free_row 7) (entry_of 3 2 ∷ []) ∷ []) ≡ drop_text 1 1 }
     ensures text { drop_text 3 12 ≡ codes "dropped 3\nrows 12 of 65536\n" }
 {}
 
 /// Counterexamples: each promise of a store whose needless rows are dropped, or are not, fails for a minimal one.
 pub fn drops_can_be_broken()
+    ensures forgets { ForgetsNone 1 small_bond (numbered_row 0 (entry_of 1 2) (free_row 9) []
+        ∷ numbered_row 1 (entry_of 3 2) (free_row 8) [] ∷ []) one_token }
+    ensures forgets_floor { ForgetsNone 1 small_bond (numbered_row 0 (entry_of 1 2) (free_row 9) []
+        ∷ numbered_row 1 (entry_of 3 2) (free_row 10) [] ∷ []) one_token → ⊥ }
+    ensures forgets_bond { ForgetsNone 1 other_bond [] one_token → ⊥ }
+
     ensures left { IsLeft one_named 1 small_bond 4 [] (named_store first_content) named_conn }
     ensures left_conn { IsLeft one_named 1 small_bond 4 [] (named_store first_content)
         (record named_conn { in_transaction = true }) → ⊥ }

@@ -16,6 +16,9 @@ returns-clause-rows c = refl
 pub returns-clause-no_rows : goal.returns-clause-no_rows
 returns-clause-no_rows c = refl
 
+pub returns-clause-counts : goal.returns-clause-counts
+returns-clause-counts c = refl
+
 pub returns-clause-text : goal.returns-clause-text
 unfolding digits drop_text
 returns-clause-text c = refl

@@ -1,20 +1,51 @@
 -- Each promise is asked about the store that breaks it.
-use Rattle.std.proofs.Common.{◌≡◌, ℕ, List, [], inl, inr, true, false, refl, ap, sym, ◌∙◌, arith}
+use Rattle.std.proofs.Common.{◌≡◌, ◌≤◌, ℕ, List, [], ◌∷◌, inl, inr, map, true, false, refl, ap, sym, subst, ◌∙◌, arith}
 use Rattle.sqlite.specs.Held.{Held as Conn}
 use Rattle.floor_sql.specs.Held.{SqlHeld}
 use Rattle.floor_store.specs.Content.{Content}
+use Rattle.floor_store.specs.Examples.{free_row}
+use Rattle.floor_store.specs.Records.{RowRecord}
 use Rattle.otp_core.specs.Limits.{default_limits}
 use Rattle.token_file.specs.Credential.{Credential}
-use Rattle.roster_sql.specs.Examples.{first_content, one_token, small_bond}
+use Rattle.roster_sql.specs.Examples.{entry_of, first_content, one_token, other_bond, small_bond}
 use Rattle.roster_sql.specs.declared.entry.Entry.{Entry}
+use Rattle.roster_sql.proofs.ExampleLemmas.{one_holds}
 use Rattle.named_store.specs.Entries.{entries_of}
+use Rattle.named_store.specs.Floors.{raised_floor}
 use Rattle.retired_rows.specs.declared.row.NumberedRow.{NumberedRow}
+use Rattle.retired_rows.proofs.StayLemmas.{returns_no_lower}
 use Rattle.oathd_database.specs.Broken.{shows_any}
 use Rattle.oathd_database.proofs.BrokenLemmas.{clean_is, imported_is}
-use Rattle.oathd_floors.specs.Dropped.{IsLeft, dropped_text, numbered}
+use Rattle.oathd_floors.specs.Dropped.{IsLeft, dropped_text, numbered, numbered_row}
 use Rattle.oathd_floors.specs.Examples.{named_conn, named_store, one_entry, one_named, small_cluster}
-use Rattle.oathd_floors.proofs.BrokenLemmas.{one_bound, one_rows, rows_read}
+use Rattle.oathd_floors.proofs.BrokenLemmas.{not_other, one_bound, one_read, one_rows, rows_read}
 use Rattle.oathd_floors.proofs.drop_laws.drops_can_be_broken.Goals as goal
+
+pub returns-clause-forgets : goal.returns-clause-forgets
+unfolding one_holds
+returns-clause-forgets c = record {
+  roster = one_entry;
+  content = first_content;
+  passes = [];
+  whole = one_holds;
+  of_node = refl;
+  none_lower = λ place floor row at. returns_no_lower (numbered_row 0 (entry_of 1 2) (free_row 9) []
+      ∷ numbered_row 1 (entry_of 3 2) (free_row 8) [] ∷ []) place floor row at;
+}
+
+pub returns-clause-forgets_floor : goal.returns-clause-forgets_floor
+returns-clause-forgets_floor c h =
+    let is = one_read one_token.schema h.content h.passes h.roster small_bond h.whole in
+    let row = numbered_row 1 (entry_of 3 2) (free_row 10) [] in
+    let floor : raised_floor one_entry (map (λ (r : RowRecord). r.next) first_content.rows) row.entry.seed 0
+    ≡ raised_floor h.roster (map (λ (r : RowRecord). r.next) h.content.rows) row.entry.seed 0 =
+    ap (λ (content : Content). raised_floor one_entry (map (λ (r : RowRecord). r.next) content.rows) row.entry.seed 0) is.0
+    ∙ ap (λ (roster : List Entry). raised_floor roster (map (λ (r : RowRecord). r.next) h.content.rows) row.entry.seed 0) is.2 in
+    let low : ◌≤◌ 10 9 = subst (λ (n : ℕ). 10 ≤ n) (sym floor) (h.none_lower 1 0 row refl) in
+    omega (arith, low)
+
+pub returns-clause-forgets_bond : goal.returns-clause-forgets_bond
+returns-clause-forgets_bond c h = not_other (one_read one_token.schema h.content h.passes h.roster other_bond h.whole).3
 
 pub returns-clause-left : goal.returns-clause-left
 returns-clause-left c = inl (refl, refl)
