@@ -1,7 +1,7 @@
 //! What a port that joins datagrams tells a log of the datagrams that it passed over: what the port below tells.
 
 use crate::port::BundlePort;
-use node_log::{Fell, Gatekeeper, Older, PLACES};
+use gatekeeping::{Fell, Gatekeeper, Older, PLACES};
 use sealed_port::{SetAside, Unopened};
 
 impl<P: Gatekeeper + Drop> Gatekeeper for BundlePort<P> {

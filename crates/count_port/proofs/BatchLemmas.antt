@@ -1,10 +1,10 @@
 -- Batches are counted, whatever the clock told.
 use Rattle.std.proofs.Common.{◌≡◌, ℕ, ◌+◌, ◌-◌, ◌^◌, ◌≤◌, List, [], ◌∷◌, length, Option, refl, ap, ◌∙◌, arith}
 use Rattle.std.specs.Prelude.{◌==◌, if◌then◌else◌, max, min}
-use Rattle.operator_text.specs.Commits.{commits_of}
-use Rattle.operator_text.specs.declared.commits.Bucket.{Bucket}
-use Rattle.operator_text.specs.declared.commits.Bucket.TheVariants as Buckets
-use Rattle.operator_text.specs.declared.commits.CommitTimes.{CommitTimes}
+use Rattle.gatekeeping.specs.Commits.{commits_of}
+use Rattle.gatekeeping.specs.declared.commits.Bucket.{Bucket}
+use Rattle.gatekeeping.specs.declared.commits.Bucket.TheVariants as Buckets
+use Rattle.gatekeeping.specs.declared.commits.CommitTimes.{CommitTimes}
 use Rattle.sealed_port.specs.Causes.{one_more}
 use Rattle.count_port.specs.Batches.{Batch, after_batches, after_datagrams, bucket_of, largest_of, number_of, settled, with_commit, with_datagram}
 use Rattle.count_port.specs.declared.batches.Batches.{Batches}

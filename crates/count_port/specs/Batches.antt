@@ -2,9 +2,9 @@
 use Rattle.std.specs.Prelude.{ℕ, ◌+◌, ◌-◌, ◌==◌, ◌≡◌, nat_le, max, if◌then◌else◌, List, [], ◌∷◌, length, Option, Some, None}
 use Rattle.datagram_port.specs.declared.port.Received.{Received}
 use Rattle.datagram_port.specs.declared.port.Received.TheVariants.{Datagram, Quiet, Fault}
-use Rattle.operator_text.specs.declared.commits.Bucket.{Bucket}
-use Rattle.operator_text.specs.declared.commits.Bucket.TheVariants as Buckets
-use Rattle.operator_text.specs.declared.commits.CommitTimes.{CommitTimes}
+use Rattle.gatekeeping.specs.declared.commits.Bucket.{Bucket}
+use Rattle.gatekeeping.specs.declared.commits.Bucket.TheVariants as Buckets
+use Rattle.gatekeeping.specs.declared.commits.CommitTimes.{CommitTimes}
 use Rattle.sealed_port.specs.Causes.{one_more}
 use Rattle.count_port.specs.declared.batches.Batches.{Batches}
 

@@ -4,7 +4,7 @@ use Rattle.std.specs.Str.{bytes_eq}
 use Rattle.field_text.specs.Cut.{Halves, halves_of}
 use Rattle.datagram_port.specs.Port.{PortEvent, Received, Quiet, Faulted, Offered}
 use Rattle.datagram_port.specs.declared.port.Sender.TheVariants.{Client, Peer}
-use Rattle.operator_text.specs.declared.status.Refused.{Refused}
+use Rattle.gatekeeping.specs.declared.refused.Refused.{Refused}
 use Rattle.sealed_port.specs.Causes.{one_more}
 use Rattle.count_port.specs.declared.counts.Counts.{Counts}
 

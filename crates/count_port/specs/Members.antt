@@ -3,10 +3,10 @@ use Rattle.std.specs.Prelude.{ℕ, ◌/◌, ◌==◌, nat_lt, true, false, if◌
 use Rattle.std.specs.Option.{option_map}
 use Rattle.datagram_port.specs.Port.{PortEvent, Received, Quiet, Faulted, Offered}
 use Rattle.datagram_port.specs.declared.port.Sender.TheVariants.{Client, Peer}
-use Rattle.node_log.specs.Read.{is_read}
-use Rattle.operator_text.specs.declared.status.Other.{Other}
-use Rattle.operator_text.specs.declared.status_line.Seen.{Seen}
-use Rattle.operator_text.specs.declared.status_line.Seen.TheVariants.{Heard, Silent, Differs}
+use Rattle.gatekeeping.specs.Read.{is_read}
+use Rattle.gatekeeping.specs.declared.others.Other.{Other}
+use Rattle.gatekeeping.specs.declared.others.Seen.{Seen}
+use Rattle.gatekeeping.specs.declared.others.Seen.TheVariants.{Heard, Silent, Differs}
 use Rattle.sealed_port.specs.Causes.{one_more}
 use Rattle.count_port.specs.declared.members.Member.{Member}
 

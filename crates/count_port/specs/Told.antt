@@ -1,6 +1,6 @@
 -- What a port tells of what it counted.
 use Rattle.std.specs.Prelude.{◌≡◌, List, map}
-use Rattle.node_log.specs.declared.counters.Counters.{Counters}
+use Rattle.gatekeeping.specs.declared.counters.Counters.{Counters}
 use Rattle.sealed_port.specs.declared.cause.Unopened.{Unopened}
 use Rattle.count_port.specs.Counts.{ticks_of}
 use Rattle.count_port.specs.Members.{seen_of}

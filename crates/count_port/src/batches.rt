@@ -6,7 +6,7 @@ ghost use Rattle.count_port.specs.Batches.{Settles, Takes, committed, no_batches
 
 use crate::counts::one_more;
 use datagram_port::Received;
-use operator_text::{Bucket, CommitTimes};
+use gatekeeping::{Bucket, CommitTimes};
 use otp_core::MOMENTS_END;
 use std::time::Clock as TimeSource;
 

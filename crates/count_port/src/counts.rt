@@ -8,7 +8,7 @@ ghost use Rattle.count_port.specs.Counts as spec;
 ghost use Rattle.count_port.specs.Counts.{counts_after, ticks_of, with_answer, with_reason};
 
 use field_text::cut_at;
-use operator_text::Refused;
+use gatekeeping::Refused;
 
 /// The number of datagrams after which a tick follows.
 const DATAGRAMS_OF_A_TICK: u64 = 64;

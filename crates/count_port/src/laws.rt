@@ -3,8 +3,8 @@
 ghost use Rattle.std.specs.Prelude.{◌≡◌, ◌∷◌, ◌-◌, ◌^◌, [], List, None, Some, map, min};
 ghost use Rattle.datagram_port.specs.declared.port.Received.TheVariants.{Datagram, Fault, Quiet};
 ghost use Rattle.datagram_port.specs.declared.port.Sender.TheVariants.{Client};
-ghost use Rattle.operator_text.specs.Commits.{commits_of};
-ghost use Rattle.operator_text.specs.declared.commits.Bucket.TheVariants.{Fifty, Five, Hundred, More, One, Ten, Twenty, Two};
+ghost use Rattle.gatekeeping.specs.Commits.{commits_of};
+ghost use Rattle.gatekeeping.specs.declared.commits.Bucket.TheVariants.{Fifty, Five, Hundred, More, One, Ten, Twenty, Two};
 ghost use Rattle.count_port.specs.Batches.{Batch, after_batches, after_datagrams, batches_after, bucket_at, bucket_of, largest_of, no_batches, number_of, settled};
 
 /// Each batch is counted once, whatever the clock told: the commits of all buckets are as many as the batches, and the

@@ -5,8 +5,7 @@ ghost use Rattle.count_port.specs.Members as spec;
 ghost use Rattle.count_port.specs.Members.{differing, heard, new_member, rested};
 
 use arrayvec::ArrayVec;
-use node_log::MAX_OTHERS;
-use operator_text::{Other, Seen};
+use gatekeeping::{MAX_OTHERS, Other, Seen};
 
 /// The number of quiet turns in a second.
 const QUIETS_OF_SECOND: u64 = 5;

@@ -17,7 +17,7 @@ use crate::counts::Counts;
 use crate::members::{Member, differ, hear, others_of, rest, seen_of};
 use arrayvec::ArrayVec;
 use datagram_port::{Port, Received, Sender};
-use node_log::{Counters, Fell, Gatekeeper, MAX_OTHERS, Older, PLACES, is_read};
+use gatekeeping::{Counters, Fell, Gatekeeper, MAX_OTHERS, Older, PLACES, is_read};
 use sealed_port::{SetAside, Unopened};
 use std::time::Clock as TimeSource;
 use vote_wire::ClusterKey;

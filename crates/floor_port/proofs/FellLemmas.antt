@@ -6,7 +6,7 @@ use Rattle.std.proofs.lemmas.List.{drop_at, length-set, take-append-drop}
 use Rattle.datagram_port.specs.Port.{PortEvent, Received, Quiet, Faulted, Offered}
 use Rattle.datagram_port.specs.declared.port.Sender.TheVariants.{Client, Peer}
 use Rattle.named_wire.specs.declared.head.Head.{Head}
-use Rattle.node_log.specs.declared.gatekeeper.Fell.{Fell}
+use Rattle.gatekeeping.specs.declared.gatekeeper.Fell.{Fell}
 use Rattle.floor_port.specs.Claims.{ClaimsRecord, claims_after, falls, fell_of, first_fall, is_fallen, is_older, kept_after, with_fallen, with_fell}
 use Rattle.floor_port.specs.Packer.{PackerRecord, after_datagram, after_held, fall_by, fell_by, hearing, told_by, with_claims}
 use Rattle.floor_port.specs.Runs.{AreUntold, Call, Came, IsAfter, Left, Offer, after, after_calls, at_start, fell_before, fell_in, fells_over}

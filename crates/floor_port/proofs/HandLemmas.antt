@@ -9,7 +9,7 @@ use Rattle.named_port.specs.Translator.{between, is_older}
 use Rattle.named_wire.specs.Datagram.{datagram_at, datagram_bytes}
 use Rattle.named_wire.specs.declared.head.Head.{Head}
 use Rattle.floor_port.specs.Floors.{floor_bytes, told_in}
-use Rattle.node_log.specs.declared.gatekeeper.Fell.{Fell}
+use Rattle.gatekeeping.specs.declared.gatekeeper.Fell.{Fell}
 use Rattle.floor_port.specs.Claims.{ClaimsRecord, claims_after, fell_of, is_fallen, new_claims, no_claim, place_of}
 use Rattle.floor_port.specs.Packer.{PackerRecord, StartRecord, after_datagram, after_held, bytes_of, bytes_or, fall_by, fell_by, first_bytes, first_of, first_told, floor_head, floors_read, hearing, in_time, member_bytes, new_packer, tells_floors, told_by, with_claims, with_head, with_others}
 use Rattle.floor_port.specs.Pace.{after_heard}

@@ -2,7 +2,7 @@
 -- lower floor of a token in a later boot went back to an old store.
 use Rattle.std.specs.Prelude.{ℕ, ◌+◌, ◌-◌, ◌*◌, ◌&&◌, Bool, false, true, max, nat_le, nat_lt, if◌then◌else◌, List, [], ◌∷◌, ◌++◌, length, replicate, slice_index, slice_index_or, slice_set, Option, Some, None}
 use Rattle.std.specs.Option.{option_map}
-use Rattle.node_log.specs.declared.gatekeeper.Fell.{Fell}
+use Rattle.gatekeeping.specs.declared.gatekeeper.Fell.{Fell}
 use Rattle.named_port.specs.Names.{number_of}
 use Rattle.floor_port.specs.declared.claims.Claim.{Claim}
 use Rattle.floor_port.specs.declared.floor.NamedFloor.{NamedFloor}

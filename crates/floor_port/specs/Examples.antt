@@ -7,8 +7,8 @@ use Rattle.named_wire.specs.declared.head.Head.{Head}
 use Rattle.named_wire.specs.declared.head.Kind.{Kind}
 use Rattle.named_wire.specs.declared.head.Kind.TheVariants.{Floor}
 use Rattle.vote_wire.specs.Examples.{eight_bytes}
-use Rattle.node_log.specs.Differing.{nobody}
-use Rattle.node_log.specs.declared.gatekeeper.Fell.{Fell}
+use Rattle.gatekeeping.specs.Members.{nobody}
+use Rattle.gatekeeping.specs.declared.gatekeeper.Fell.{Fell}
 use Rattle.floor_port.specs.Claims.{ClaimsRecord, no_claim}
 use Rattle.floor_port.specs.Pace.{PaceRecord}
 use Rattle.floor_port.specs.Packer.{PackerRecord, PendingRecord, StartRecord, new_packer}

@@ -9,7 +9,7 @@ use Rattle.named_wire.specs.declared.head.Head.{Head}
 use Rattle.named_wire.specs.declared.head.Kind.TheVariants.{Floor, Floors}
 use Rattle.named_port.specs.Runs.{boot_of}
 use Rattle.named_port.specs.Translator.{between, is_older}
-use Rattle.node_log.specs.declared.gatekeeper.Fell.{Fell}
+use Rattle.gatekeeping.specs.declared.gatekeeper.Fell.{Fell}
 use Rattle.floor_port.specs.Claims.{ClaimsRecord, claims_after, falls, fell_of, is_fallen, new_claims}
 use Rattle.floor_port.specs.Floors.{floor_bytes, floors_body, told_in}
 use Rattle.floor_port.specs.Pace.{PaceRecord, after_heard, after_quiet, due, new_pace}

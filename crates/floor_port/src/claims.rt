@@ -5,8 +5,8 @@ ghost use Rattle.floor_port.specs.Claims as spec;
 ghost use Rattle.floor_port.specs.Rows.{rows_of};
 
 use crate::floor::NamedFloor;
+use gatekeeping::PLACES;
 use named_port::Names;
-use node_log::PLACES;
 use std::alloc::{AllocError, Global};
 use std::marker::Model;
 

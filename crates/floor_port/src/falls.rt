@@ -4,7 +4,7 @@ ghost use Rattle.std.specs.Prelude.{◌≡◌, [], drop, slice_get};
 ghost use Rattle.floor_port.specs.Claims as spec;
 
 use arrayvec::ArrayVec;
-use node_log::Fell;
+use gatekeeping::Fell;
 use std::marker::Model;
 
 /// The number of places for falls. A member falls once at most.
@@ -18,7 +18,7 @@ pub(crate) struct Falls {
 
 impl Model for Falls {
     ghost use Rattle.std.specs.Prelude.{List};
-    ghost use Rattle.node_log.specs.declared.gatekeeper.Fell.{Fell as FellMember};
+    ghost use Rattle.gatekeeping.specs.declared.gatekeeper.Fell.{Fell as FellMember};
 
     ghost Value = { List FellMember };
 

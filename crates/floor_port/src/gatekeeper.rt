@@ -2,7 +2,7 @@
 //! port below tells.
 
 use crate::port::FloorPort;
-use node_log::{Fell, Gatekeeper, Older, PLACES};
+use gatekeeping::{Fell, Gatekeeper, Older, PLACES};
 use sealed_port::{SetAside, Unopened};
 
 impl<P: Gatekeeper + Drop> Gatekeeper for FloorPort<'_, P> {

@@ -3,7 +3,7 @@
 ghost use Rattle.std.specs.Prelude.{◌≡◌, slice_index};
 ghost use Rattle.floor_port.specs.Packer.{with_boot};
 
-use node_log::PLACES;
+use gatekeeping::PLACES;
 use std::marker::Model;
 
 /// The greatest boot in which each member was heard or was known at the start, from member 0 to 9, or 0.

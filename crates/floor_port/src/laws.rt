@@ -5,7 +5,7 @@ ghost use Rattle.datagram_port.specs.declared.port.Sender.TheVariants.{Peer};
 ghost use Rattle.named_port.specs.Names.{number_of};
 ghost use Rattle.named_port.specs.Translator.{is_older};
 ghost use Rattle.named_wire.specs.Bytes.{AreBytes};
-ghost use Rattle.node_log.specs.declared.gatekeeper.Fell.{Fell};
+ghost use Rattle.gatekeeping.specs.declared.gatekeeper.Fell.{Fell};
 ghost use Rattle.floor_port.specs.Claims.{is_fallen};
 ghost use Rattle.floor_port.specs.Floors.{IsBodyOf, floors_at};
 ghost use Rattle.floor_port.specs.Packer.{PackerRecord, StartRecord, after_event, handed_in, new_packer};

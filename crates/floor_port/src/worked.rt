@@ -5,7 +5,7 @@ ghost use Rattle.named_port.specs.Translator.{is_older};
 ghost use Rattle.named_wire.specs.declared.head.Kind.TheVariants.{Ask, Deny, Floor, Floors, Grant};
 ghost use Rattle.vote_wire.specs.Examples.{eight_bytes};
 ghost use Rattle.floor_port.specs.Examples.{ask_of, bare_setup, body_of_two, book, claim, claims_of_1, deny_of_9, equal_floor, fallen_1, fallen_node, fell_1, floor_of, fresh_rows, from_1, gone_1, head_with, heard_1, hears_1, later_deny, left_of_1, lower_floor, name_with, node_2, node_2_knowing, node_2_over, node_2_told, node_2_with, one_floor, pace_with, rows_with, start_with, told_in_4, two_floors, zeros};
-ghost use Rattle.node_log.specs.Differing.{nobody};
+ghost use Rattle.gatekeeping.specs.Members.{nobody};
 ghost use Rattle.floor_port.specs.Claims.{claims_after, falls, fell_of, is_below, is_fallen, new_claims, no_claim, place_of, with_fell};
 ghost use Rattle.floor_port.specs.Floors.{IsBodyOf, floors_at, floors_body, is_body, told_in};
 ghost use Rattle.floor_port.specs.Pace.{after_heard, after_quiet, due, new_pace, round_of};

@@ -9,7 +9,7 @@ use Rattle.datagram_port.specs.declared.port.Sender.TheVariants.{Client, Peer}
 use Rattle.named_wire.specs.declared.head.Head.{Head}
 use Rattle.named_port.specs.Runs.{IsAfter, after_events, at_start, below_event, below_events, handed_events}
 use Rattle.named_port.specs.Translator.{TranslatorRecord, after_event, after_read, bytes_or_none, handed_in, is_older, new_translator, offered, sent_by, translated}
-use Rattle.node_log.specs.declared.gatekeeper.Older.{Older}
+use Rattle.gatekeeping.specs.declared.gatekeeper.Older.{Older}
 use Rattle.named_port.proofs.RunLemmas.{keeps_event, keeps_events}
 
 abbrev present : {A : Type 0} → A → Option A

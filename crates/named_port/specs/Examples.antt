@@ -8,8 +8,8 @@ use Rattle.named_wire.specs.declared.head.Kind.{Kind}
 use Rattle.named_wire.specs.declared.head.Kind.TheVariants.{Floor}
 use Rattle.vote_wire.specs.Examples.{ask_body, eight_bytes}
 use Rattle.named_port.specs.Translator.{TranslatorRecord, new_translator}
-use Rattle.node_log.specs.Boots.{nobody_heard}
-use Rattle.node_log.specs.declared.gatekeeper.Older.{Older}
+use Rattle.gatekeeping.specs.Members.{nobody_heard}
+use Rattle.gatekeeping.specs.declared.gatekeeper.Older.{Older}
 
 -- a key of 32 zeros
 abbrev pub zeros : List ℕ

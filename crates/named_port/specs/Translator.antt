@@ -6,8 +6,8 @@ use Rattle.datagram_port.specs.declared.port.Sender.TheVariants.{Client, Peer}
 use Rattle.named_wire.specs.Datagram.{datagram_at}
 use Rattle.named_wire.specs.declared.head.Head.{Head}
 use Rattle.named_port.specs.Wire.{is_of_one_token, named_at, numbered_of}
-use Rattle.node_log.specs.Differing.{nobody}
-use Rattle.node_log.specs.declared.gatekeeper.Older.{Older}
+use Rattle.gatekeeping.specs.Members.{nobody}
+use Rattle.gatekeeping.specs.declared.gatekeeper.Older.{Older}
 
 -- A translator of a node: the cluster's key, the names of its book, its number and boot, the boots of the members that
 -- it knew at its start, the greatest boot of each that it knew or heard, from member 0 to 9, the last dropped datagram

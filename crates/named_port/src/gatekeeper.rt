@@ -1,7 +1,7 @@
 //! What a port by names tells a log of the datagrams that it passed over.
 
 use crate::port::NamedPort;
-use node_log::{Fell, Gatekeeper, Older, PLACES};
+use gatekeeping::{Fell, Gatekeeper, Older, PLACES};
 use sealed_port::{SetAside, Unopened};
 
 impl<P: Gatekeeper + Drop> Gatekeeper for NamedPort<'_, P> {

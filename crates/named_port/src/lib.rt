@@ -4,9 +4,9 @@
 //! under the bare key: they stay in the process. Members speak in named datagrams, of version 3, under the cluster's
 //! key. The port translates one datagram into one. It hands a member's datagram without a translation to the node as
 //! one without bytes, which the node drops. So it drops a datagram whose tag is wrong, also one under the bare key, and
-//! one whose head has an older boot than its member was heard in ([`Older`](node_log::Older)). It notes which members
-//! differ, for the log: their datagrams are under another key, of another version, or of a token whose name the book
-//! hasn't. Clients' datagrams pass unchanged.
+//! one whose head has an older boot than its member was heard in ([`Older`](gatekeeping::Older)). It notes which
+//! members differ, for the log: their datagrams are under another key, of another version, or of a token whose name the
+//! book hasn't. Clients' datagrams pass unchanged.
 //!
 //! An Ask and a Grant by name have packed fields: without the node of the proposal, which is one of the two ends, and
 //! with the low byte of the last factor alone.

@@ -4,7 +4,7 @@ ghost use Rattle.std.specs.Option.{option_map};
 ghost use Rattle.std.specs.Prelude.{◌≡◌, ◌≤◌, ◌∷◌, [], ◌≢◌, Some, None, IfSome, take};
 ghost use Rattle.datagram_port.specs.Port.{Grows, IsWithin, Offered, entries_of_poll, event_of_receive};
 ghost use Rattle.datagram_port.specs.declared.port.Received.TheVariants.{Quiet};
-ghost use Rattle.node_log.specs.Differing.{nobody};
+ghost use Rattle.gatekeeping.specs.Members.{nobody};
 ghost use Rattle.named_port.specs.Port.{Polls, Receives};
 ghost use Rattle.named_port.specs.Runs.{IsAfter, at_start, handed_events};
 ghost use Rattle.named_port.specs.Setup.{named_setup};
@@ -14,7 +14,7 @@ use crate::names::Names;
 use crate::record::Record;
 use crate::translator::Translator;
 use datagram_port::{Port, Received, Sender};
-use node_log::{Older, PLACES};
+use gatekeeping::{Older, PLACES};
 use vote_wire::ClusterKey;
 
 /// A node's port over another one. It translates members' datagrams, and passes on those of clients unchanged. It keeps

@@ -2,15 +2,15 @@
 
 ghost use Rattle.std.specs.Option.{option_map};
 ghost use Rattle.std.specs.Prelude.{◌≡◌, ◌<◌, None, IfSome, slice_set, true};
-ghost use Rattle.node_log.specs.Differing.{nobody};
+ghost use Rattle.gatekeeping.specs.Members.{nobody};
 ghost use Rattle.named_port.specs.Translator.{after_datagram, new_translator, sent_by, translated};
 ghost use Rattle.named_port.specs.Wire.{named_at};
 
 use crate::names::Names;
 use crate::wire::{MAX_NAMED_LEN, MAX_NUMBERED_LEN, is_of_one_token, named, numbered};
 use arrayvec::ArrayVec;
+use gatekeeping::{Older, PLACES};
 use named_wire::{Head, read_datagram};
-use node_log::{Older, PLACES};
 use std::marker::Model;
 use vote_wire::ClusterKey;
 

@@ -4,8 +4,8 @@ ghost use Rattle.datagram_port.specs.declared.port.Sender.TheVariants.{Client, P
 ghost use Rattle.named_wire.specs.declared.head.Head.{Head};
 ghost use Rattle.named_wire.specs.declared.head.Kind.TheVariants.{Ask, Deny, Floor, Floors, Grant};
 ghost use Rattle.vote_wire.specs.Examples.{ask_body, eight_bytes};
-ghost use Rattle.node_log.specs.Boots.{nobody_heard};
-ghost use Rattle.node_log.specs.Examples.{only};
+ghost use Rattle.gatekeeping.specs.Members.{nobody_heard};
+ghost use Rattle.gatekeeping.specs.Members.{only};
 ghost use Rattle.named_port.specs.Examples.{bare_setup, floor_6, floor_7, floor_from, floor_head, from_3, name_with, named_ask, names_of_1, names_of_2, node_1, node_2, node_2_after, node_2_knowing, numbered_ask, older, packed_ask, packed_vote_of, renumbered_ask, short_names, vote_of, zeros};
 ghost use Rattle.named_port.specs.Names.{number_of};
 ghost use Rattle.named_port.specs.Port.{Polls, Receives};

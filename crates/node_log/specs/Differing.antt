@@ -1,11 +1,9 @@
 -- The members from which datagrams came that a node can't read.
-use Rattle.std.specs.Prelude.{ℕ, Bool, false, true, if◌then◌else◌, List, [], ◌∷◌, replicate, slice_index_or, slice_set, codes}
+use Rattle.std.specs.Prelude.{ℕ, Bool, false, true, if◌then◌else◌, List, [], ◌∷◌, slice_index_or, slice_set, codes}
 use Rattle.std.specs.List.{flat_map}
 use Rattle.node_log.specs.Members.{member_line}
 
--- Nobody differs. Whether each member does is a list, from member 0, which there is not, to member 9.
-abbrev pub nobody : List Bool
-nobody = replicate 10 false
+-- Whether each member differs is a list, from member 0, which there is not, to member 9.
 
 -- the members that differ, with those of the given numbers that differ by another list
 abbrev pub with_others : List ℕ → List Bool → List Bool → List Bool

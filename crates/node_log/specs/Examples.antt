@@ -4,9 +4,9 @@ use Rattle.vote_core.specs.declared.message.Message.TheVariants.{Floor}
 use Rattle.vote_wire.specs.Datagram.{datagram_bytes}
 use Rattle.vote_wire.specs.Key.{bare}
 use Rattle.node_log.specs.Asked.{AskedLine}
-use Rattle.node_log.specs.Differing.{nobody}
+use Rattle.gatekeeping.specs.Members.{nobody}
 use Rattle.node_log.specs.declared.bad_lines.BadLines.{BadLines}
-use Rattle.node_log.specs.declared.gatekeeper.Fell.{Fell}
+use Rattle.gatekeeping.specs.declared.gatekeeper.Fell.{Fell}
 use Rattle.node_log.specs.declared.members.Member.{Member}
 use Rattle.node_log.specs.declared.minute.Minute.{Minute}
 
@@ -40,10 +40,6 @@ fell_3 = record {
   member = 3;
   name = 0x01 ∷ 0x23 ∷ 0x45 ∷ 0x67 ∷ 0x89 ∷ 0xab ∷ 0xcd ∷ 0xef ∷ replicate 8 0x0a;
 }
-
--- one member differs
-abbrev pub only : ℕ → List Bool
-only number = slice_set nobody number true
 
 -- a second by its number of quiet turns, and of answers `NO - BADLINE`
 abbrev pub second : ℕ → ℕ → BadLines

@@ -1,10 +1,8 @@
 pub mod Asked
 pub mod BadLines
-pub mod Boots
 pub mod Differing
 pub mod Examples
 pub mod Log
 pub mod Members
 pub mod Minute
-pub mod Read
 pub mod Text

@@ -6,10 +6,10 @@ use Rattle.datagram_port.specs.declared.port.Sender.{Sender}
 use Rattle.datagram_port.specs.declared.port.Sender.TheVariants.{Client, Peer}
 use Rattle.node_log.specs.Asked.{AskedLine, place_of, user_at, with_line, without}
 use Rattle.node_log.specs.BadLines.{is_told, more_text}
-use Rattle.node_log.specs.Differing.{nobody}
+use Rattle.gatekeeping.specs.Members.{nobody}
 use Rattle.node_log.specs.Members.{after_datagram, after_quiet, heard_texts, silent_texts}
 use Rattle.node_log.specs.Minute.{is_over}
-use Rattle.node_log.specs.Read.{is_read}
+use Rattle.gatekeeping.specs.Read.{is_read}
 use Rattle.node_log.specs.Text.{answered_line}
 use Rattle.node_log.specs.declared.bad_lines.BadLines.{BadLines}
 use Rattle.node_log.specs.declared.members.Member.{Member}

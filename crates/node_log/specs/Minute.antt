@@ -7,8 +7,8 @@ use Rattle.sealed_port.specs.declared.cause.Unopened.{Unopened}
 use Rattle.hex.specs.Hex.{encode_lower}
 use Rattle.node_log.specs.Differing.{differing_text}
 use Rattle.node_log.specs.Text.{valued}
-use Rattle.node_log.specs.declared.gatekeeper.Fell.{Fell}
-use Rattle.node_log.specs.declared.gatekeeper.Older.{Older}
+use Rattle.gatekeeping.specs.declared.gatekeeper.Fell.{Fell}
+use Rattle.gatekeeping.specs.declared.gatekeeper.Older.{Older}
 use Rattle.node_log.specs.declared.minute.Minute.{Minute}
 
 -- the minute before any quiet turn

@@ -3,7 +3,7 @@
 ghost use Rattle.std.specs.Prelude.{◌≡◌};
 ghost use Rattle.node_log.specs.Differing.{either, with_others};
 
-use crate::gatekeeper::PLACES;
+use gatekeeping::PLACES;
 
 /// Marks those of the members with the given numbers that differ by another list.
 fn mark_others(differing: &mut [bool; PLACES], others: &[bool; PLACES], numbers: &[u8])

@@ -5,7 +5,8 @@ ghost use Rattle.std.specs.Io.KnownBytes.{Appends};
 ghost use Rattle.datagram_port.specs.Port.{Offered, Quiet, Received};
 ghost use Rattle.datagram_port.specs.declared.port.Sender.TheVariants.{Client};
 ghost use Rattle.node_log.specs.BadLines.{bad_lines_after, more_text, new_second};
-ghost use Rattle.node_log.specs.Differing.{either, nobody};
+ghost use Rattle.gatekeeping.specs.Members.{nobody};
+ghost use Rattle.node_log.specs.Differing.{either};
 ghost use Rattle.node_log.specs.Members.{after_datagram, after_quiet, heard_texts, silent_texts};
 ghost use Rattle.node_log.specs.Log.{Tells, asked_after, offer_text};
 ghost use Rattle.node_log.specs.Minute.{is_over, minute_after, new_minute, passed_over_text};
@@ -14,16 +15,13 @@ ghost use Rattle.node_log.specs.Text.{end_line};
 use crate::asked::AskedLines;
 use crate::bad_lines::BadLines;
 use crate::differing::either;
-use crate::gatekeeper::{Fell, Older, PLACES};
 use crate::members::{Member, hear, rest, write_heard, write_silent};
 use crate::minute::{Minute, write_passed_over};
 use crate::text::{write_answered, write_end};
 use arrayvec::ArrayVec;
+use gatekeeping::{Fell, MAX_OTHERS, Older, PLACES};
 use sealed_port::Unopened;
 use std::io::{self, Write};
-
-/// The maximum number of other members of a node's cluster.
-pub const MAX_OTHERS: usize = 8;
 
 /// Writes the lines of a quiet turn.
 fn write_quiet<W: Write>(writer: &mut W, members: &[Member], bad_lines: &BadLines) -> io::Result<()>

@@ -7,9 +7,9 @@ ghost use Rattle.datagram_port.specs.Port.{Quiet};
 ghost use Rattle.node_log.specs.Differing.{differing_text, differs_text};
 ghost use Rattle.node_log.specs.Minute.{causes_text, fell_line, fell_text, has_none, is_over, minute_after, new_minute, numbered, older_line, older_text, passed_over_text, token_text, unopened_line};
 
-use crate::gatekeeper::{Fell, Older, PLACES};
 use crate::members::write_member;
 use crate::text::{write_small, write_value};
+use gatekeeping::{Fell, Older, PLACES};
 use sealed_port::Unopened;
 use std::io::{self, Write};
 

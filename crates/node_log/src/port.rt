@@ -5,18 +5,17 @@ ghost use Rattle.datagram_port.specs.declared.port.Received.TheVariants.{Quiet a
 ghost use Rattle.datagram_port.specs.Port.{Grows, IsWithin, Offered, Received as ReceivedEvent, entries_of_poll, event_of_receive};
 ghost use Rattle.datagram_port.specs.declared.port.Sender.TheVariants.{Peer};
 ghost use Rattle.node_log.specs.BadLines.{bad_lines_after, new_second};
-ghost use Rattle.node_log.specs.Differing.{either, nobody};
+ghost use Rattle.gatekeeping.specs.Members.{nobody};
+ghost use Rattle.node_log.specs.Differing.{either};
 ghost use Rattle.node_log.specs.Log.{Remembers, Tells, asked_after, differing_after, differing_at_receive, members_after, offer_text, told_of, with_datagram};
 ghost use Rattle.node_log.specs.Minute.{minute_after, minute_at_receive, minute_text, new_minute};
 ghost use Rattle.node_log.specs.Text.{end_line};
 
-use crate::counters::Counters;
-use crate::gatekeeper::{Fell, Gatekeeper, Older, PLACES};
-use crate::log::{Log, MAX_OTHERS};
+use crate::log::Log;
 use crate::members::Member;
-use crate::read::is_read;
 use arrayvec::ArrayVec;
 use datagram_port::{Port, Received, Sender};
+use gatekeeping::{Counters, Fell, Gatekeeper, MAX_OTHERS, Older, PLACES, is_read};
 use sealed_port::{SetAside, Unopened};
 use std::io::Write;
 use vote_wire::ClusterKey;

@@ -3,7 +3,7 @@ use Rattle.std.specs.Prelude.{◌≡◌, ℕ, ◌+◌, nat_lt, Bool, if◌then�
 use Rattle.std.specs.Option.{option_map}
 use Rattle.floor_store.specs.Content.{Content}
 use Rattle.floor_store.specs.Records.{RowRecord}
-use Rattle.node_log.specs.declared.counters.Counters.{Counters}
+use Rattle.gatekeeping.specs.declared.counters.Counters.{Counters}
 use Rattle.operator_text.specs.declared.status.Rows.{Rows}
 use Rattle.operator_text.specs.declared.status.Status.{Status}
 use Rattle.node_reports.specs.declared.standing.Standing.{Standing}

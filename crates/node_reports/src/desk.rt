@@ -13,7 +13,7 @@ use crate::text::page_of_text;
 use crate::told::Told;
 use datagram_port::Clock;
 use floor_store::{FloorStore, StoreFault};
-use node_log::Gatekeeper;
+use gatekeeping::Gatekeeper;
 use oath_node::{Node, NodeFault};
 use oathd_database::{Attend, Stop, write_passes};
 use operator_text::{Reply, Report, Request, read_request, write_reply};

@@ -9,7 +9,7 @@ ghost use Rattle.node_reports.specs.Standing.{TellsCounters, TellsStanding, Tell
 
 use field_text::{cut_at, read_number};
 use floor_store::{FloorStore, MAX_ROWS, StoreFault};
-use node_log::Counters;
+use gatekeeping::Counters;
 use oath_node::Node;
 use operator_text::{Rows, Status, StatusLine, Version};
 use std::alloc::Global;

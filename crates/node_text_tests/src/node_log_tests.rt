@@ -2,7 +2,8 @@
 
 use arrayvec::ArrayVec;
 use datagram_port::{Coming, ListClock, ListPort, Port, Sender};
-use node_log::{Fell, Log, LogPort, Member, Older};
+use gatekeeping::{Fell, Older};
+use node_log::{Log, LogPort, Member};
 use otp_core::Next;
 use sealed_port::{Failures, Gate, SealedPort, Unopened};
 use std::alloc::Global;

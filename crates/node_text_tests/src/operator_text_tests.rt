@@ -1,9 +1,9 @@
 //! Requests both ways, and a report in pages, as a client gathers it.
 
 use arrayvec::ArrayVec;
+use gatekeeping::{CommitTimes, Other, Refused, Seen};
 use operator_text::{
-    CommitTimes, Other, Page, Refused, Report, Request, Rows, Seen, Status, Version, read_page,
-    read_request, write_request,
+    Page, Report, Request, Rows, Status, Version, read_page, read_request, write_request,
 };
 use sealed_port::Unopened;
 use std::alloc::Global;

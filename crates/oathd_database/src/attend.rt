@@ -3,7 +3,7 @@
 ghost use Rattle.std.specs.Prelude.{◌≡◌};
 
 use floor_store::FloorStore;
-use node_log::{Gatekeeper, PLACES};
+use gatekeeping::{Gatekeeper, PLACES};
 use oath_node::{Never, Node, NodeFault, Until};
 
 /// What may end the turns of a node after a batch. It knows neither the node's store nor its port.

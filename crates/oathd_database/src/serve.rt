@@ -5,8 +5,8 @@ ghost use Rattle.std.specs.Io.KnownBytes.{Appends};
 ghost use Rattle.oath_node.specs.TurnServing.{Serves};
 ghost use Rattle.oath_node.specs.declared.serve_fault.ServeFault.{ServeFault};
 ghost use Rattle.oath_node.specs.declared.turns.Served.{Served};
-ghost use Rattle.node_log.specs.Boots.{nobody_heard};
-ghost use Rattle.node_log.specs.Differing.{nobody};
+ghost use Rattle.gatekeeping.specs.Members.{nobody_heard};
+ghost use Rattle.gatekeeping.specs.Members.{nobody};
 ghost use Rattle.oath_node.specs.Calls.{IsOpened};
 ghost use Rattle.oathd_database.specs.Commands.{EndsServing, HasServed, IsServed};
 ghost use Rattle.oathd_database.specs.Fault.{IsOpenFault, serve_end};
@@ -25,9 +25,8 @@ use arrayvec::ArrayVec;
 use cluster_file::fingerprint;
 use datagram_port::Clock;
 use floor_store::FloorStore;
-use node_log::{
-    Gatekeeper, LogPort, MAX_OTHERS, Member, PLACES, Roster, Start, write_roster, write_start,
-};
+use gatekeeping::{Gatekeeper, MAX_OTHERS, PLACES};
+use node_log::{LogPort, Member, Roster, Start, write_roster, write_start};
 use oath_node::{Never, Node, ServeFault, Served, run_turns_until};
 use otp_core::Settings;
 use sealed_port::SealedPort;

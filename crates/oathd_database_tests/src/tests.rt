@@ -3,7 +3,7 @@
 use datagram_port::{Coming, ListClock, ListPort, PortEntry, Sender};
 use floor_sql::SqlStore;
 use floor_store::{FloorStore, StoreFault};
-use node_log::Gatekeeper;
+use gatekeeping::Gatekeeper;
 use oath_node::{Never, Node, NodeFault, Served};
 use oathd_database::{
     Attend, Attended, Database, Fault, init_store, open_node, open_store, serve_node, write_audit,

@@ -47,8 +47,8 @@ last_told held acts old new first entries asked told turns answers counts (Err f
 pub last_answer : {S : Type 0} (g : Ghosts S) (finds : sql.Held S → Type 0) (cluster : NamedCluster) (moment : ℕ) (serving : Serving)
     (answers : ℕ → Bool → Bool → Type 0) (counts : Served) (text : List ℕ)
     (h : HasServedNamed g finds cluster moment serving answers (Ok counts) text)
-    → (serving.turns ≡ 0) ⊎ ((left : ℕ) × (left < serving.turns) × (own : Bool) × answers left (is_waiting h.last) own)
+    → (serving.turns ≡ 0) ⊎ ((left : ℕ) × (left < serving.turns) × (own : Bool) × answers left (is_waiting h.over.last) own)
 last_answer g finds cluster moment serving answers counts text h =
-    let run = h.served_is in
-    last_told (seated_held (sql_held g)) (operator_acts (seated_held (sql_held g))) h.first h.last _ _ _ _ serving.turns answers counts run.end run.ends
+    let run = h.over.served_is in
+    last_told (seated_held (sql_held g)) (operator_acts (seated_held (sql_held g))) h.over.first h.over.last _ _ _ _ serving.turns answers counts run.end run.ends
     run.serves.serves

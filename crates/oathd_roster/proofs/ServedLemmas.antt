@@ -1,11 +1,10 @@
 -- A node is served over a port by names.
-use Rattle.std.proofs.Common.{inl, inr, ◌≡◌, ◌∙◌, ℕ, ◌+◌, Bool, true, false, List, [], ◌∷◌, map, Option, Some, None, IfSome, refl, sym, ap, subst}
-use Rattle.std.specs.Prelude.{◌⊎◌, Result, Ok, Err, IsSome}
-use Rattle.std.proofs.lemmas.Option.{IfSome_then, same_Some}
+use Rattle.std.proofs.Common.{inl, inr, ◌≡◌, ◌∙◌, ℕ, Bool, true, false, List, [], ◌∷◌, map, Option, Some, None, refl, sym, ap, subst}
+use Rattle.std.specs.Prelude.{◌⊎◌, Result, Ok, Err, IfErr, IfOk, IsSome}
+use Rattle.std.proofs.lemmas.Option.{same_Some}
 use Rattle.std.specs.declared.net.socket_addr.SocketAddrV4.{SocketAddrV4}
 use Rattle.sqlite.specs.Store.{Ghosts}
 use Rattle.sqlite.specs.Held as sql
-use Rattle.sqlite.specs.State.{HasCleanDisk}
 use Rattle.bundle_port.specs.Bundler.{BundlerRecord, new_bundler}
 use Rattle.bundle_port.specs.Runs as joining
 use Rattle.datagram_port.specs.Port.{PortEvent}
@@ -52,8 +51,9 @@ use Rattle.oathd_database.specs.declared.gate.Front.{Front}
 use Rattle.oathd_database.specs.declared.gate.Front.TheVariants.{Anybody, ThisMachine, Gate}
 use Rattle.oathd_database.specs.declared.serving.Serving.{Serving}
 use Rattle.oathd_roster.specs.Opened.{HasOpenedNamed, IsNotOpened}
-use Rattle.oathd_roster.specs.Served.{EndsServingNamed, HasServedNamed, IsServedNamed, ServesNamed, floors_in}
+use Rattle.oathd_roster.specs.Served.{EndsServingNamed, HasServedNamed, IsEarlyFault, IsNamingOf, IsServedNamed, IsServedOver, ServesNamed, packer_of, translator_of}
 use Rattle.oathd_roster.specs.declared.cluster.NamedCluster.{NamedCluster}
+use Rattle.oathd_roster.specs.declared.naming.Naming.{Naming}
 use Rattle.oathd_roster.specs.declared.fault.RosterFault.{RosterFault}
 use Rattle.oathd_roster.specs.declared.fault.RosterFault.TheVariants.{Command, SameName, AnotherCluster, Full}
 use Rattle.oathd_database.proofs.StretchLemmas.{stretches_so}
@@ -261,24 +261,98 @@ pub not_early : {A B : Type 0} (served : Served) → ((Ok served ≡ failed Memo
 not_early served (inl memory) = let clash = memory.0 in absurd cc
 not_early served (inr run) = run
 
+-- ---- a run in a boot
+
+module _ {S : Type 0} (held : S → Held) (serving : Serving) (book : List Credential) (names : List (List ℕ)) (store : S) (naming : Naming) (is : IsNamingOf serving book names (held store) naming) where
+  -- the translator and the packer at their start
+  translator_is : translator_of naming ≡ new_translator (tag_key serving.key book) names serving.place.me naming.node.boot naming.node.known
+  translator_is = start_is _ _ _ _ _ _ naming.node.boot naming.node.known is.of_key is.of_names is.of_node
+
+  packing_is : packer_of naming ≡ new_packer (tag_key serving.key book) names serving.place.me naming.node.boot serving.place.n (start_of naming.node.gone_back naming.node.known naming.floors.items)
+  packing_is = packer_is _ _ _ _ _ _ naming.node.boot _ _ (start_of naming.node.gone_back naming.node.known naming.floors.items) is.of_key is.of_names is.of_node is.of_members
+
+  module _ (first last : Hosted S) (in_boot : IsOpened held store first) (of_book : first.book ≡ book)
+      (of_limits : first.limits ≡ serving.settings) (of_key : first.key ≡ bare) (of_place : first.voter.place ≡ serving.place) where
+    -- a node that is served over its store
+    pub served_by : (answers : ℕ → Bool → Bool → Type 0) (result : Result Served Fault)
+        → IsServedNamed held (operator_acts held) first last (setup_for serving.place.me serving.members.items serving.lines) (translator_of naming) (packer_of naming) serving.turns answers result
+        → IsServedOver held serving book names store answers result
+    served_by answers result run = record {
+      first = first;
+      in_boot = in_boot;
+      of_book = of_book;
+      of_limits = of_limits;
+      of_key = of_key;
+      of_place = of_place;
+      last = last;
+      boot = naming.node.boot;
+      boot_is = is.boot_is;
+      floors = naming.floors.items;
+      floors_are = is.floors_are;
+      gone_back = naming.node.gone_back;
+      known = naming.node.known;
+      served_is =
+          subst (λ (t : TranslatorRecord). IsServedNamed held (operator_acts held) first last (setup_for serving.place.me serving.members.items serving.lines) t
+          (new_packer (tag_key serving.key book) names serving.place.me naming.node.boot serving.place.n (start_of naming.node.gone_back naming.node.known naming.floors.items)) serving.turns answers result)
+          translator_is
+          (subst (λ (p : PackerRecord). IsServedNamed held (operator_acts held) first last (setup_for serving.place.me serving.members.items serving.lines) (translator_of naming) p serving.turns answers result)
+          packing_is run);
+    }
+
+    -- the node's run ends with a fault before the first turn, or in a turn
+    pub ends_by : (fault : Fault)
+        → IsEarlyFault fault ⊎ IsServedNamed held (operator_acts held) first last (setup_for serving.place.me serving.members.items serving.lines) (translator_of naming) (packer_of naming) serving.turns (DeskAnswers unasked) (Err fault)
+        → IsEarlyFault fault ⊎ IsServedOver held serving book names store (DeskAnswers unasked) (Err fault)
+    ends_by fault (inl early) = inl early
+    ends_by fault (inr run) = inr (served_by (DeskAnswers unasked) (Err fault) run)
+
+-- ---- results
+
+pub then_ok : {T E : Type 0} (r : Result T E) (P Q : T → Type 0) → ((x : T) → P x → Q x) → IfOk r P → IfOk r Q
+then_ok (Ok x) P Q f h = f x h
+then_ok (Err e) P Q f h = tt
+
+pub then_err : {T E : Type 0} (r : Result T E) (P Q : E → Type 0) → ((x : E) → P x → Q x) → IfErr r P → IfErr r Q
+then_err (Ok x) P Q f h = tt
+then_err (Err e) P Q f h = f e h
+
+-- ---- the faults before the first turn
+
+pub early_open : (fault : Fault) → IsOpenFault fault → IsEarlyFault fault
+early_open Memory is = tt
+early_open CannotWrite is = is
+early_open NoClock is = tt
+early_open (Users fault) is = is
+early_open (Store fault) is = tt
+early_open Socket is = tt
+
+pub early_front : (fault : Fault) → IsFrontFault fault → IsEarlyFault fault
+early_front Memory is = tt
+early_front CannotWrite is = is
+early_front NoClock is = tt
+early_front (Users fault) is = is
+early_front (Store fault) is = tt
+early_front Socket is = tt
+
+-- a fault of the socket, or of the allocator
+pub early_is : (fault one : Fault) → IsEarlyFault one → fault ≡ one → IsEarlyFault fault
+early_is fault one is same = subst IsEarlyFault (sym same) is
+
+-- who met want of memory at the desk met it before the first turn
+pub ends_desk : {A B C : Type 0} (fault : Fault) → (A → C) → ((fault ≡ Memory) × B) ⊎ A → IsEarlyFault fault ⊎ C
+ends_desk fault so (inl memory) = inl (early_is fault Memory tt memory.0)
+ends_desk fault so (inr run) = inr (so run)
+
 -- ---- the command
 
 module _ (limits : Limits) (moment longest : ℕ) (book : List Credential) (floors : List ℕ) where
-  opening_failed : (fault : Fault) (text : List ℕ) → IsImported limits moment longest book floors text → IsOpenFault fault → IsNotServed limits moment longest fault text
-  opening_failed Memory text h is = tt
-  opening_failed CannotWrite text h is = absurd is
-  opening_failed NoClock text h is = absurd is
-  opening_failed (Users fault) text h is = absurd is
-  opening_failed (Store fault) text h is = record { book = book; floors = floors; imported = h }
-  opening_failed Socket text h is = absurd is
-
-  front_failed : (fault : Fault) (text : List ℕ) → IsImported limits moment longest book floors text → IsFrontFault fault → IsNotServed limits moment longest fault text
-  front_failed Memory text h is = tt
-  front_failed CannotWrite text h is = absurd is
-  front_failed NoClock text h is = record { book = book; floors = floors; imported = h }
-  front_failed (Users fault) text h is = absurd is
-  front_failed (Store fault) text h is = absurd is
-  front_failed Socket text h is = absurd is
+  early_failed : (fault : Fault) (text : List ℕ) → IsImported limits moment longest book floors text → IsEarlyFault fault → IsNotServed limits moment longest fault text
+  early_failed Memory text h is = tt
+  early_failed CannotWrite text h is = absurd is
+  early_failed NoClock text h is = record { book = book; floors = floors; imported = h }
+  early_failed (Users fault) text h is = absurd is
+  early_failed (Store fault) text h is = record { book = book; floors = floors; imported = h }
+  early_failed Socket text h is = record { book = book; floors = floors; imported = h }
 
 module _ {S : Type 0} (g : Ghosts S) (finds : sql.Held S → Type 0) (cluster : NamedCluster) (moment : ℕ) (serving : Serving) where
   refused : (fault : Fault) (text : List ℕ) → IsNotOpened g finds cluster serving.settings moment 16777216 serving.place.me (Command fault) text
@@ -291,94 +365,34 @@ module _ {S : Type 0} (g : Ghosts S) (finds : sql.Held S → Type 0) (cluster : 
   refused Socket text h = absurd h
 
   -- no store is opened
-  pub ends_unopened : (a : Option (List ℕ)) (fault : RosterFault)
-      → IfSome a (IsNotOpened g finds cluster serving.settings moment 16777216 serving.place.me fault)
-      → IfSome a (EndsServingNamed g finds cluster moment serving fault)
-  ends_unopened None fault h = tt
-  ends_unopened (Some text) (Command fault) h = inl (refused fault text h)
-  ends_unopened (Some text) (SameName row) h = h
-  ends_unopened (Some text) AnotherCluster h = h
-  ends_unopened (Some text) Full h = h
+  pub ends_unopened : (fault : RosterFault) (text : List ℕ)
+      → IsNotOpened g finds cluster serving.settings moment 16777216 serving.place.me fault text
+      → EndsServingNamed g finds cluster moment serving fault text
+  ends_unopened (Command fault) text h = inl (refused fault text h)
+  ends_unopened (SameName row) text h = h
+  ends_unopened AnotherCluster text h = h
+  ends_unopened Full text h = h
 
-  module _ (a : Option (List ℕ)) (book : List Credential) (floors : List ℕ)
-      (imported : IfSome a (IsImported serving.settings moment 16777216 book floors)) where
-    ends_before : (fault : Fault) → ((text : List ℕ) → IsImported serving.settings moment 16777216 book floors text
-        → IsNotServed serving.settings moment 16777216 fault text) → IfSome a (EndsServingNamed g finds cluster moment serving (Command fault))
-    ends_before fault fails = IfSome_then a imported (λ text h. inl (fails text h))
+  module _ (text : List ℕ) (book : List Credential) (floors : List ℕ) (imported : IsImported serving.settings moment 16777216 book floors text)
+      (found : SeatedRecord (SqlHeld S)) (counts : RowCounts) (opened : HasOpenedNamed g finds cluster serving.settings moment serving.place.me book floors found counts)
+      (names : List (List ℕ)) (are : names ≡ names_of cluster.salt book) where
+    -- the node is served
+    pub has_served : (answers : ℕ → Bool → Bool → Type 0) (result : Result Served Fault)
+        → IsServedOver (seated_held (sql_held g)) serving book names found (DeskAnswers answers) result
+        → HasServedNamed g finds cluster moment serving answers result text
+    has_served answers result over = record {
+      import = record { book = book; floors = floors; imported = imported };
+      found = found;
+      counts = counts;
+      opened = opened;
+      over = subst (λ (all : List (List ℕ)). IsServedOver (seated_held (sql_held g)) serving book all found (DeskAnswers answers) result) are over;
+    }
 
-    -- the allocator refuses the memory before the first turn, or the node was served
-    pub ends_early : {A B : Type 0} (fault : Fault) → ((fault ≡ Memory) × B) ⊎ A
-        → (A → IfSome a (EndsServingNamed g finds cluster moment serving (Command fault)))
-        → IfSome a (EndsServingNamed g finds cluster moment serving (Command fault))
-    ends_early fault (inl memory) served =
-        subst (λ (x : Fault). IfSome a (EndsServingNamed g finds cluster moment serving (Command x))) (sym memory.0)
-        (ends_before Memory (λ text h. tt))
-    ends_early fault (inr run) served = served run
-
-    -- the node is not opened, or its store fails
-    pub ends_opening : (fault : Fault) → IsOpenFault fault → IfSome a (EndsServingNamed g finds cluster moment serving (Command fault))
-    ends_opening fault is = ends_before fault (λ text h. opening_failed serving.settings moment 16777216 book floors fault text h is)
-
-    -- what stands before the node can't be made
-    pub ends_front : (fault : Fault) → IsFrontFault fault → IfSome a (EndsServingNamed g finds cluster moment serving (Command fault))
-    ends_front fault is = ends_before fault (λ text h. front_failed serving.settings moment 16777216 book floors fault text h is)
-
-    -- the socket can't be had
-    pub ends_socket : (fault : Fault) → fault ≡ Socket → IfSome a (EndsServingNamed g finds cluster moment serving (Command fault))
-    ends_socket fault is =
-        subst (λ (x : Fault). IfSome a (EndsServingNamed g finds cluster moment serving (Command x))) (sym is)
-        (ends_before Socket (λ text h. record { book = book; floors = floors; imported = h }))
-
-    -- the allocator refuses the memory
-    pub ends_memory : (fault : Fault) → fault ≡ Memory → IfSome a (EndsServingNamed g finds cluster moment serving (Command fault))
-    ends_memory fault is =
-        subst (λ (x : Fault). IfSome a (EndsServingNamed g finds cluster moment serving (Command x))) (sym is) (ends_before Memory (λ text h. tt))
-
-    module _ (found : SeatedRecord (SqlHeld S)) (counts : RowCounts) (first last : Hosted (SeatedRecord (SqlHeld S))) (boot : ℕ) (gone_back : List Bool) (known starts : List ℕ)
-        (opened : HasOpenedNamed g finds cluster serving.settings moment serving.place.me book floors found counts)
-        (in_boot : IsOpened (seated_held (sql_held g)) found first) (of_book : first.book ≡ book)
-        (of_limits : first.limits ≡ serving.settings) (of_key : first.key ≡ bare) (of_place : first.voter.place ≡ serving.place)
-        (boot_is : HasCleanDisk (sql.state g found.inner.conn) → boot ≡ found.inner.mirror.boot + 1)
-        (starts_are : HasCleanDisk (sql.state g found.inner.conn) → starts ≡ floors_in (seated_held (sql_held g) found).content) where
-      abbrev IsSo : (ℕ → Bool → Bool → Type 0) → Result Served Fault → Type 0
-      IsSo answers result = IsServedNamed (seated_held (sql_held g)) (operator_acts (seated_held (sql_held g))) first last
-          (setup_for serving.place.me serving.members.items serving.lines)
-          (new_translator (tag_key serving.key book) (names_of cluster.salt book) serving.place.me boot known)
-          (new_packer (tag_key serving.key book) (names_of cluster.salt book) serving.place.me boot serving.place.n (start_of gone_back known starts)) serving.turns
-          (DeskAnswers answers) result
-
-      served_so : (answers : ℕ → Bool → Bool → Type 0) (result : Result Served Fault) → IsSo answers result
-          → IfSome a (HasServedNamed g finds cluster moment serving answers result)
-      served_so answers result is =
-          IfSome_then a imported (λ text i. record {
-            import = record { book = book; floors = floors; imported = i };
-            found = found;
-            counts = counts;
-            opened = opened;
-            first = first;
-            in_boot = in_boot;
-            of_book = of_book;
-            of_limits = of_limits;
-            of_key = of_key;
-            of_place = of_place;
-            last = last;
-            boot = boot;
-            boot_is = boot_is;
-            floors = starts;
-            floors_are = starts_are;
-            gone_back = gone_back;
-            known = known;
-            served_is = is;
-          })
-
-      -- the node is served to the end
-      pub has_served : (answers : ℕ → Bool → Bool → Type 0) (served : Served) → IsSo answers (Ok served)
-          → IfSome a (HasServedNamed g finds cluster moment serving answers (Ok served))
-      has_served answers served is = served_so answers (Ok served) is
-
-      -- a fault ends the turns
-      pub ends_served : (fault : Fault) → IsSo unasked (Err fault) → IfSome a (EndsServingNamed g finds cluster moment serving (Command fault))
-      ends_served fault is = IfSome_then a (served_so unasked (Err fault) is) (λ text has. inr has)
+    -- a fault ends it
+    pub ends_served : (fault : Fault) → IsEarlyFault fault ⊎ IsServedOver (seated_held (sql_held g)) serving book names found (DeskAnswers unasked) (Err fault)
+        → EndsServingNamed g finds cluster moment serving (Command fault) text
+    ends_served fault (inl early) = inl (early_failed serving.settings moment 16777216 book floors fault text imported early)
+    ends_served fault (inr over) = inr (has_served unasked (Err fault) over)
 
 -- who was not served to the end wasn't served, for want of memory, or was served till the fault
 pub ends_at_desk : {S B : Type 0} (held : S → Held) (acts : ActsOf S) (old new : Hosted S) (setup : Setup) (start : TranslatorRecord) (packer : PackerRecord) (turns : ℕ)

@@ -2,7 +2,6 @@
 use Rattle.std.specs.Prelude.{◌≡◌, ◌⊎◌, ℕ, ◌+◌, Bool, true, List, [], map, Option, Some, None, Result, Err}
 use Rattle.sqlite.specs.Store.{Ghosts}
 use Rattle.sqlite.specs.Held as sql
-use Rattle.sqlite.specs.State.{HasCleanDisk}
 use Rattle.bundle_port.specs.Bundler.{new_bundler}
 use Rattle.bundle_port.specs.Runs as joining
 use Rattle.datagram_port.specs.Port.{PortEvent}
@@ -22,6 +21,7 @@ use Rattle.oath_node.specs.declared.turns.Served.{Served}
 use Rattle.named_store.specs.declared.opening.RowCounts.{RowCounts}
 use Rattle.node_reports.specs.Desk.{DeskAnswers}
 use Rattle.seated_store.specs.Seated.{SeatedRecord, seated_held}
+use Rattle.token_file.specs.Credential.{Credential}
 use Rattle.token_names.specs.Names.{names_of}
 use Rattle.udp_port.specs.Calls.{SocketCalls}
 use Rattle.vote_wire.specs.Key.{bare}
@@ -31,6 +31,7 @@ use Rattle.oathd_database.specs.NodeKey.{tag_key}
 use Rattle.oathd_database.specs.Setup.{AreEventsOf, setup_for}
 use Rattle.oathd_database.specs.Stretches.{ActsOf, ServesIn, operator_acts, unasked}
 use Rattle.oathd_database.specs.declared.fault.Fault.{Fault}
+use Rattle.oathd_database.specs.declared.fault.Fault.TheVariants.{Memory, CannotWrite, NoClock, Users, Store, Socket}
 use Rattle.oathd_database.specs.declared.serving.Serving.{Serving}
 use Rattle.oathd_roster.specs.Enrolled.{IsServedText}
 use Rattle.oathd_roster.specs.Opened.{HasOpenedNamed, IsNotOpened}
@@ -95,6 +96,61 @@ pub record IsServedNamed {S : Type 0} (held : S → Held) (acts : ActsOf S) (old
   pub serves : ServesNamed held acts old new start packer (Some events) turns answers end
   pub ends : result ≡ serve_end end
 
+-- ---- the boot
+
+-- a fault that ends a command between the import of its users file and the first turn
+abbrev pub IsEarlyFault : Fault → Type 0
+IsEarlyFault Memory = Unit {0}
+IsEarlyFault CannotWrite = ⊥
+IsEarlyFault NoClock = Unit {0}
+IsEarlyFault (Users fault) = ⊥
+IsEarlyFault (Store fault) = Unit {0}
+IsEarlyFault Socket = Unit {0}
+
+-- What the ports of a node by names translate and tell by, in the boot after that of its store, for the tokens of a
+-- book.
+pub record IsNamingOf (serving : Serving) (book : List Credential) (names : List (List ℕ)) (store : Held)
+    (naming : Naming) : Type 0 where
+  pub of_key : naming.key ≡ tag_key serving.key book
+  pub of_names : naming.names ≡ names
+  pub of_node : naming.node.me ≡ serving.place.me
+  pub of_members : naming.node.members ≡ serving.place.n
+  pub boot_is : store.is_clean → naming.node.boot ≡ store.content.boot + 1
+  pub floors_are : store.is_clean → naming.floors.items ≡ floors_in store.content
+
+-- A node was opened over a store for the tokens of a book, and served by their names through new ports, or until an
+-- answer or a fault ended the turns. Between two batches it was acted on for operators.
+pub record IsServedOver {S : Type 0} (held : S → Held) (serving : Serving) (book : List Credential)
+    (names : List (List ℕ)) (store : S) (answers : ℕ → Bool → Bool → Type 0) (result : Result Served Fault)
+    : Type 0 where
+  pub first : Hosted S
+  pub in_boot : IsOpened held store first
+  pub of_book : first.book ≡ book
+  pub of_limits : first.limits ≡ serving.settings
+  -- the node speaks to its port under the bare key, and the port to the members under the cluster's
+  pub of_key : first.key ≡ bare
+  pub of_place : first.voter.place ≡ serving.place
+  pub last : Hosted S
+  -- the boot of the node, after that of its store
+  pub boot : ℕ
+  pub boot_is : (held store).is_clean → boot ≡ (held store).content.boot + 1
+  -- the floors of its tokens, those of its store
+  pub floors : List ℕ
+  pub floors_are : (held store).is_clean → floors ≡ floors_in (held store).content
+  -- the members that went back in an earlier boot of the process, from member 0 to 9
+  pub gone_back : List Bool
+  -- the greatest boot in which each was heard in an earlier boot of the process, or 0
+  pub known : List ℕ
+  -- the port below is at the members of `serving`, and takes its lines
+  pub served_is :
+      let setup = setup_for serving.place.me serving.members.items serving.lines in
+      let key = tag_key serving.key book in
+      let me = serving.place.me in
+      IsServedNamed held (operator_acts held) first last setup (new_translator key names me boot known)
+      (new_packer key names me boot serving.place.n
+      (record { gone_back = gone_back; known = known; floors = floors }))
+      serving.turns answers result
+
 -- ---- the command
 
 module _ {S : Type 0} (g : Ghosts S) (finds : sql.Held S → Type 0) (cluster : NamedCluster) (moment : ℕ)
@@ -109,36 +165,8 @@ module _ {S : Type 0} (g : Ghosts S) (finds : sql.Held S → Type 0) (cluster : 
     pub counts : RowCounts
     pub opened :
         HasOpenedNamed g finds cluster serving.settings moment serving.place.me import.book import.floors found counts
-    pub first : Hosted (SeatedRecord (SqlHeld S))
-    pub in_boot : IsOpened (seated_held (sql_held g)) found first
-    pub of_book : first.book ≡ import.book
-    pub of_limits : first.limits ≡ serving.settings
-    -- the node speaks to its port under the bare key, and the port to the members under the cluster's
-    pub of_key : first.key ≡ bare
-    pub of_place : first.voter.place ≡ serving.place
-    pub last : Hosted (SeatedRecord (SqlHeld S))
-    -- the boot of the node, after that of its store
-    pub boot : ℕ
-    pub boot_is : HasCleanDisk (sql.state g found.inner.conn) → boot ≡ found.inner.mirror.boot + 1
-    -- the floors of its tokens, those of its store
-    pub floors : List ℕ
-    pub floors_are :
-        HasCleanDisk (sql.state g found.inner.conn) → floors ≡ floors_in (seated_held (sql_held g) found).content
-    -- the members that went back in an earlier boot of the process, from member 0 to 9
-    pub gone_back : List Bool
-    -- the greatest boot in which each was heard in an earlier boot of the process, or 0
-    pub known : List ℕ
-    -- the port below is at the members of `serving`, and takes its lines
-    pub served_is :
-        let setup = setup_for serving.place.me serving.members.items serving.lines in
-        let key = tag_key serving.key import.book in
-        let names = names_of cluster.salt import.book in
-        let me = serving.place.me in
-        let held = seated_held (sql_held g) in
-        IsServedNamed held (operator_acts held) first last setup (new_translator key names me boot known)
-        (new_packer key names me boot serving.place.n
-        (record { gone_back = gone_back; known = known; floors = floors }))
-        serving.turns (DeskAnswers answers) result
+    pub over : IsServedOver (seated_held (sql_held g)) serving import.book (names_of cluster.salt import.book) found
+        (DeskAnswers answers) result
 
 -- A command that serves a node by names ends with the fault: before the first turn, or in a turn, with all that was
 -- served until then.

@@ -1,16 +1,16 @@
 //! The command `serve` over a store by names: runs a node over the store and a socket.
 
-ghost use Rattle.std.specs.Prelude.{◌≡◌, ◌⊎◌, ◌<◌, ◌^◌, [], None, Some, false, true, if◌then◌else◌, map, Result, Ok, Err, IfErr, IfOk, IfSome, IsSome};
+ghost use Rattle.std.specs.Prelude.{◌≡◌, ◌⊎◌, ◌<◌, ◌^◌, [], None, Some, false, true, if◌then◌else◌, length, map, Result, Ok, Err, IfErr, IfOk, IfSome, IsSome};
 ghost use Rattle.otp_core.specs.Range.{IsMoment};
 ghost use Rattle.cluster_file.specs.Rows.{book_print_of};
 ghost use Rattle.node_reports.specs.Desk.{DeskAnswers};
 ghost use Rattle.oath_node.specs.declared.serve_fault.ServeFault.{ServeFault};
 ghost use Rattle.oath_node.specs.declared.turns.Served.{Served};
-ghost use Rattle.oathd_database.specs.Fault.{serve_end};
-ghost use Rattle.oathd_database.specs.Setup.{setup_behind};
+ghost use Rattle.oathd_database.specs.Fault.{IsOpenFault, serve_end};
+ghost use Rattle.oathd_database.specs.Setup.{setup_behind, setup_for};
 ghost use Rattle.oathd_database.specs.Stretches.{ServesIn, operator_acts, unasked};
 ghost use Rattle.oathd_roster.specs.Log.{roster_at};
-ghost use Rattle.oathd_roster.specs.Served.{EndsServingRows, HasServedRows, IsServedNamed, ServesNamed, packer_of, translator_of};
+ghost use Rattle.oathd_roster.specs.Served.{EndsServingRows, HasServedRows, IsEarlyFault, IsNamingOf, IsServedNamed, IsServedOver, ServesNamed, packer_of, translator_of};
 
 use crate::cluster::NamedCluster;
 use crate::fault::RosterFault;
@@ -24,12 +24,12 @@ use cluster_file::book_print;
 use command_line::VERSION;
 use count_port::CountPort;
 use floor_port::{FloorPort, Membership};
-use floor_sql::SqlStore;
 use floor_store::FloorStore;
+use gatekeeping::Gatekeeper;
 use kept_rows::write_left;
 use named_port::{NamedPort, Names};
 use named_store::RowCounts;
-use node_log::{Gatekeeper, Roster, Start};
+use node_log::{Roster, Start};
 use node_reports::{Desk, NamedRows, Standing, Told, version_of};
 use oath_node::{Node, Served};
 use oathd_database::{
@@ -37,7 +37,6 @@ use oathd_database::{
     log_of, open_node, serve_port, start_of, tag_key,
 };
 use sealed_port::SealedPort;
-use seated_store::SeatedStore;
 use sqlite::Alter;
 use std::alloc::Global;
 use std::io::Write;
@@ -307,6 +306,165 @@ fn tell_left<W: Write>(
     }
 }
 
+/// Returns what the ports of a node by names translate and tell by in a new boot, over a store that was opened for the
+/// tokens of `named`, and the content of its log's first line.
+///
+/// # Errors
+/// - Returns `Memory` if the allocator refuses the memory.
+/// - Returns `Store` with the fault that broke the store.
+fn naming_of<S: FloorStore>(
+    alloc: Global,
+    named: &NamedUsers,
+    store: &S,
+    serving: &Serving<'_>,
+    socket: &KeptSocket,
+) -> Result<(Naming, Start), Fault>
+    requires { length (S.held store.now).content.rows ≡ length named.now.users.book }
+    ensures naming { IfOk result (λ made. IsNamingOf serving.now named.now.users.book
+        (map (λ entry. entry.name) named.now.entries.items) (S.held store.now) made.0) }
+    ensures heard { IfOk result (λ made. (made.0.node.gone_back ≡ socket.now.gone_back)
+        × (made.0.node.known ≡ socket.now.heard)) }
+    ensures fault { IfErr result IsOpenFault }
+{
+    let (book, place) = (&named.users.book, serving.place);
+    let key = tag_key(alloc, serving.key.again(), book)?;
+    let names = indexed_names(alloc, named)?;
+    let address = serving.members[usize::from(place.me()) - 1];
+    let boot = match store.boot() {
+        Ok(boot) => boot,
+        Err(fault) => return Err(Fault::Store(fault)),
+    };
+    let start = start_of(place, address, boot, book, &key);
+    let floors = floors_of(alloc, book, store)?;
+    let node = Membership {
+        me: place.me(),
+        boot: start.boot,
+        members: place.n(),
+        gone_back: socket.gone_back,
+        known: socket.heard,
+    };
+    let naming = Naming {
+        key,
+        names,
+        node,
+        floors,
+    };
+    Ok((naming, start))
+}
+
+/// Returns the log of a node, or None if there is none, and what stays of the node, which begins at `moment`.
+///
+/// Its store was opened for the tokens of `book`, and has `counts` rows.
+fn log_and_standing(
+    alloc: Global,
+    naming: &Naming,
+    place: Place,
+    moment: u64,
+    start: Start,
+    counts: RowCounts,
+    book: &Book,
+    is_logged: bool,
+) -> Result<(Option<ServeLog>, Standing), Fault>
+    ensures unlogged { IfOk result (λ made. is_logged ≡ false → made.0 ≡ None) }
+    ensures fault { IfErr result (λ fault. fault ≡ Fault.Memory) }
+{
+    let roster = roster_of(alloc, is_logged, counts, book, &naming.key)?;
+    let log = log_of(is_logged, start, roster, place);
+    let standing = standing_of(alloc, naming, place, moment, start, book)?;
+    Ok((log, standing))
+}
+
+/// Serves a node by names, which was opened for the tokens of `book`, over a UDP socket at its address. The socket is
+/// bound if `socket` isn't yet. Returns `until` too.
+///
+/// # Errors
+/// - Returns `Socket` if the socket cannot be bound.
+/// - Returns the errors of [`front_of`] and [`serve_desk`].
+fn serve_opened<S: FloorStore, T: Told<S> + Drop, N: Net + TimeSource, W: Write, U: Stop + Drop>(
+    alloc: Global,
+    node: &mut Node<'_, S>,
+    outside: &N,
+    moment: u64,
+    naming: &Naming,
+    start: Start,
+    counts: RowCounts,
+    book: &Book,
+    serving: Serving<'_>,
+    told: T,
+    socket: &mut KeptSocket,
+    until: U,
+    writer: &mut W,
+) -> Result<(Served, U), Fault>
+    ensures served { IfOk result (λ served. IsServedNamed S.held (operator_acts S.held) node.old node.new
+        (setup_for serving.entry.place.me serving.entry.members.items serving.entry.lines) (translator_of naming.now)
+        (packer_of naming.now) serving.entry.turns (DeskAnswers (U.answers served.1)) (Ok served.0)) }
+    ensures fault { IfErr result (λ fault. IsEarlyFault fault ⊎ IsServedNamed S.held (operator_acts S.held) node.old
+        node.new (setup_for serving.entry.place.me serving.entry.members.items serving.entry.lines)
+        (translator_of naming.now) (packer_of naming.now) serving.entry.turns (DeskAnswers unasked) (Err fault)) }
+    ensures unlogged { serving.entry.is_logged ≡ false → writer.new ≡ writer.old }
+{
+    let Serving {
+        place,
+        members,
+        turns,
+        is_logged,
+        lines,
+        ..
+    } = serving;
+    let address = members[usize::from(place.me()) - 1];
+    let port = UdpPort::new(socket.handle(outside, address)?, members, outside);
+    let front = front_of(alloc, place.me(), lines, outside)?;
+    let (log, standing) = log_and_standing(
+        alloc, naming, place, moment, start, counts, book, is_logged,
+    )?;
+    serve_desk(
+        alloc, node, port, naming, outside, front, turns, standing, book, told, socket, until, log,
+        writer,
+    )
+}
+
+/// Opens a node by names over a store in a new boot, and serves it as [`serve_opened`] does. The store was opened for
+/// the tokens of `named`, and has `counts` rows.
+///
+/// # Errors
+/// - Returns `Store` with the fault that broke the store, or `Memory` if the allocator refuses the memory.
+/// - Returns the errors of [`serve_opened`].
+fn serve_over<
+    S: FloorStore + Drop,
+    T: Told<S> + Drop,
+    N: Net + TimeSource,
+    W: Write,
+    U: Stop + Drop,
+>(
+    alloc: Global,
+    outside: &N,
+    moment: u64,
+    named: &NamedUsers,
+    counts: RowCounts,
+    store: S,
+    serving: Serving<'_>,
+    told: T,
+    socket: &mut KeptSocket,
+    until: U,
+    writer: &mut W,
+) -> Result<(Served, U), Fault>
+    requires { length (S.held store).content.rows ≡ length named.now.users.book }
+    ensures served { IfOk result (λ served. IsServedOver S.held serving.entry named.now.users.book
+        (map (λ entry. entry.name) named.now.entries.items) store (DeskAnswers (U.answers served.1)) (Ok served.0)) }
+    ensures fault { IfErr result (λ fault. IsEarlyFault fault ⊎ IsServedOver S.held serving.entry named.now.users.book
+        (map (λ entry. entry.name) named.now.entries.items) store (DeskAnswers unasked) (Err fault)) }
+    ensures unlogged { serving.entry.is_logged ≡ false → writer.new ≡ writer.old }
+{
+    let book = &named.users.book;
+    let (naming, start) = naming_of(alloc, named, &store, &serving, socket)?;
+    let bare = ClusterKey::bare();
+    let mut node = open_node(alloc, book, serving.settings, serving.place, &bare, store)?;
+    serve_opened(
+        alloc, &mut node, outside, moment, &naming, start, counts, book, serving, told, socket,
+        until, writer,
+    )
+}
+
 /// Opens a node over its store by names in a new boot, binds a UDP socket to its address, and serves it for the given
 /// turns, or until `until` ends them. Returns `until` too.
 ///
@@ -355,58 +513,21 @@ pub fn serve_named_store<
         text.now) }
     ensures unlogged { serving.entry.is_logged ≡ false → writer.new ≡ writer.old }
 {
-    let Serving {
-        settings,
-        place,
-        members,
-        key,
-        turns,
-        is_logged,
-        lines,
-    } = serving;
-    let node = place.me();
-    let own_key = key.again();
+    let (node, settings) = (serving.place.me(), serving.settings);
+    let own_key = serving.key.again();
     let (named, store, counts, rows, kept) = open_named_store(
         alloc, text, settings, moment, node, cluster, database,
     )?;
-    tell_left(alloc, is_logged, text, kept.as_deref(), writer);
-    let book = &named.users.book;
-    let key = tag_key(alloc, key, book)?;
-    let names = indexed_names(alloc, &named)?;
-    let address = members[usize::from(node) - 1];
-    let start = start_of(place, address, store.boot()?, book, &key);
-    let floors = floors_of(alloc, book, &store)?;
-    let gone_back = socket.gone_back;
-    let known = socket.heard;
-    let naming = Naming {
-        key,
-        names,
-        node: Membership {
-            me: node,
-            boot: start.boot,
-            members: place.n(),
-            gone_back,
-            known,
-        },
-        floors,
-    };
-    let bare = ClusterKey::bare();
-    let mut node = open_node(alloc, book, settings, place, &bare, store)?;
-    let port = UdpPort::new(socket.handle(outside, address)?, members, outside);
-    let front = front_of(alloc, place.me(), lines, outside)?;
-    let roster = roster_of(alloc, is_logged, counts, book, &naming.key)?;
-    let log = log_of(is_logged, start, roster, place);
-    let standing = standing_of(alloc, &naming, place, moment, start, book)?;
+    tell_left(alloc, serving.is_logged, text, kept.as_deref(), writer);
     let told = NamedRows {
-        node: place.me(),
-        book,
+        node,
+        book: &named.users.book,
         roster: rows,
         own: &cluster.bond,
         key: own_key.own().as_slice(),
     };
-    let served = serve_desk(
-        alloc, &mut node, port, &naming, outside, front, turns, standing, book, told, socket,
-        until, log, writer,
+    let served = serve_over(
+        alloc, outside, moment, &named, counts, store, serving, told, socket, until, writer,
     )?;
     Ok(served)
 }

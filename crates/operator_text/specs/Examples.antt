@@ -3,8 +3,8 @@ use Rattle.std.specs.Prelude.{ℕ, false, true, List, [], ◌∷◌, ◌++◌, r
 use Rattle.sealed_port.specs.Causes.{nothing}
 use Rattle.sealed_port.specs.declared.cause.Unopened.{Unopened}
 use Rattle.operator_text.specs.Page.{PageRecord, PartRecord}
-use Rattle.operator_text.specs.declared.commits.CommitTimes.{CommitTimes}
-use Rattle.operator_text.specs.declared.status.Refused.{Refused}
+use Rattle.gatekeeping.specs.declared.commits.CommitTimes.{CommitTimes}
+use Rattle.gatekeeping.specs.declared.refused.Refused.{Refused}
 use Rattle.operator_text.specs.declared.status.Status.{Status}
 
 -- `count` letters

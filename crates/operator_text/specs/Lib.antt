@@ -1,4 +1,3 @@
-pub mod Commits
 pub mod Examples
 pub mod Number
 pub mod Page

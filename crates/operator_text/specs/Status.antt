@@ -2,12 +2,12 @@
 use Rattle.std.specs.Prelude.{ℕ, ◌==◌, List, [], ◌∷◌, ◌++◌, map, IfSome, Option, Some, None, if◌then◌else◌}
 use Rattle.sealed_port.specs.declared.cause.Cause.TheVariants.{Form, Tag, Early, Late, Again, Limited}
 use Rattle.sealed_port.specs.declared.cause.Unopened.{Unopened}
-use Rattle.operator_text.specs.Commits.{commits_of}
+use Rattle.gatekeeping.specs.Commits.{commits_of}
 use Rattle.operator_text.specs.StatusLine.{IsPrint, line_text}
-use Rattle.operator_text.specs.declared.commits.Bucket.TheVariants as Buckets
-use Rattle.operator_text.specs.declared.commits.CommitTimes.{CommitTimes}
-use Rattle.operator_text.specs.declared.status.Other.{Other}
-use Rattle.operator_text.specs.declared.status.Refused.{Refused}
+use Rattle.gatekeeping.specs.declared.commits.Bucket.TheVariants as Buckets
+use Rattle.gatekeeping.specs.declared.commits.CommitTimes.{CommitTimes}
+use Rattle.gatekeeping.specs.declared.others.Other.{Other}
+use Rattle.gatekeeping.specs.declared.refused.Refused.{Refused}
 use Rattle.operator_text.specs.declared.status.Rows.{Rows}
 use Rattle.operator_text.specs.declared.status.Status.{Status}
 use Rattle.operator_text.specs.declared.status_line.Quantity.TheVariants as Quantities

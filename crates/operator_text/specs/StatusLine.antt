@@ -5,14 +5,14 @@ use Rattle.std.specs.List.{list_all}
 use Rattle.std.specs.Fmt.{decimal}
 use Rattle.sealed_port.specs.declared.cause.Cause.{Cause}
 use Rattle.sealed_port.specs.declared.cause.Cause.TheVariants.{Form, Tag, Early, Late, Again, Limited}
-use Rattle.operator_text.specs.declared.commits.Bucket.{Bucket}
-use Rattle.operator_text.specs.declared.commits.Bucket.TheVariants as Buckets
+use Rattle.gatekeeping.specs.declared.commits.Bucket.{Bucket}
+use Rattle.gatekeeping.specs.declared.commits.Bucket.TheVariants as Buckets
 use Rattle.operator_text.specs.declared.status_line.Quantity.{Quantity}
 use Rattle.operator_text.specs.declared.status_line.Quantity.TheVariants as Quantities
 use Rattle.operator_text.specs.declared.status_line.Refusal.{Refusal}
 use Rattle.operator_text.specs.declared.status_line.Refusal.TheVariants as Refusals
-use Rattle.operator_text.specs.declared.status_line.Seen.{Seen}
-use Rattle.operator_text.specs.declared.status_line.Seen.TheVariants.{Heard, Silent, Differs}
+use Rattle.gatekeeping.specs.declared.others.Seen.{Seen}
+use Rattle.gatekeeping.specs.declared.others.Seen.TheVariants.{Heard, Silent, Differs}
 use Rattle.operator_text.specs.declared.status_line.StatusLine.{StatusLine}
 use Rattle.operator_text.specs.declared.status_line.StatusLine.TheVariants.{Node, Version, Fingerprint, Book, Rows, Number, Refused, Commits, Unopened, Member}
 

@@ -5,7 +5,6 @@
 //! (the law [`pages_are_the_report`]). A [`Status`] has the lines of the report STATUS. No function allocates.
 #![tactic(auto)]
 
-mod commits;
 mod laws;
 mod number;
 mod page;
@@ -17,7 +16,6 @@ mod status_laws;
 mod status_line;
 mod worked;
 
-pub use commits::{Bucket, CommitTimes};
 pub use laws::{
     pages_are_read, pages_are_the_report, replies_are_no_pages, requests_have_one_spelling,
 };
@@ -25,12 +23,12 @@ pub use page::{MAX_LINE_LEN, MAX_PAGE_LEN, Page};
 pub use reading::read_page;
 pub use reply::{Reply, read_reply, write_reply};
 pub use request::{MAX_REQUEST_LEN, Report, Request, read_request, write_request};
-pub use status::{MAX_STATUS_LINES, Other, Refused, Rows, Status, Version};
+pub use status::{MAX_STATUS_LINES, Rows, Status, Version};
 pub use status_laws::{
     commits_are_worked, status_is_a_report, status_lines_are_worked, status_lines_can_be_broken,
     statuses_are_worked,
 };
-pub use status_line::{Quantity, Refusal, Seen, StatusLine};
+pub use status_line::{Quantity, Refusal, StatusLine};
 pub use worked::{
     lines_can_be_broken, pages_are_worked, pushes_are_worked, readings_are_worked,
     reports_can_be_broken, requests_are_worked, wishes_can_be_broken,

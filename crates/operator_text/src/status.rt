@@ -8,17 +8,14 @@ ghost use Rattle.operator_text.specs.Status.{HasPrints};
 ghost use Rattle.operator_text.specs.StatusLine.{IsStatusLine, line_text};
 ghost use Rattle.operator_text.specs.declared.status_line.StatusLine.TheVariants as Variants;
 
-use crate::commits::{Bucket, CommitTimes};
 use crate::page::MAX_LINE_LEN;
-use crate::status_line::{Quantity, Refusal, Seen, StatusLine};
+use crate::status_line::{Quantity, Refusal, StatusLine};
 use arrayvec::ArrayVec;
+use gatekeeping::{Bucket, CommitTimes, MAX_OTHERS, Other, Refused, Seen};
 use sealed_port::{Cause, Unopened};
 
 /// The maximum number of lines of a STATUS report.
 pub const MAX_STATUS_LINES: usize = 49;
-
-/// The maximum number of other members.
-const MAX_OTHERS: usize = 8;
 
 /// The version of a program.
 #[derive(Clone, Copy, Debug, PartialEq, Eq)]
@@ -28,34 +25,12 @@ pub struct Version {
     pub patch: u16,
 }
 
-/// The numbers of a node's refusals, by their reasons.
-#[derive(Clone, Copy, Debug, Default, PartialEq, Eq)]
-pub struct Refused {
-    pub bad_line: u64,
-    pub clock: u64,
-    pub busy: u64,
-    pub unknown: u64,
-    pub throttled: u64,
-    pub password: u64,
-    pub exhausted: u64,
-    pub invalid: u64,
-    pub spent: u64,
-    pub timeout: u64,
-}
-
 /// The rows of a store, also of retired tokens.
 #[derive(Clone, Copy, Debug, PartialEq, Eq)]
 pub struct Rows {
     pub number: u32,
     /// The maximum number.
     pub limit: u32,
-}
-
-/// Another member, and what the node sees of it.
-#[derive(Clone, Copy, Debug, Default, PartialEq, Eq)]
-pub struct Other {
-    pub number: u8,
-    pub seen: Seen,
 }
 
 /// The values of a node that a STATUS report tells.

@@ -1,13 +1,13 @@
 //! Laws and worked cases of STATUS reports.
 
 ghost use Rattle.std.specs.Prelude.{◌≡◌, ◌∷◌, ◌++◌, ◌^◌, ◌<◌, [], All, List, None, Some, codes, drop, length, map, replicate, take};
-ghost use Rattle.operator_text.specs.Commits.{commits_of};
+ghost use Rattle.gatekeeping.specs.Commits.{commits_of};
 ghost use Rattle.operator_text.specs.Examples.{commits_once, first_status, no_commits, refused_once, unopened_once};
 ghost use Rattle.operator_text.specs.Page.{AreLines, IsLine};
 ghost use Rattle.operator_text.specs.Status.{commit_lines, refused_lines, status_text, unopened_lines};
 ghost use Rattle.operator_text.specs.StatusLine.{IsStatusLine, line_text};
 ghost use Rattle.operator_text.specs.declared.status_line.Quantity.TheVariants as Quantities;
-ghost use Rattle.operator_text.specs.declared.status_line.Seen.TheVariants.{Differs, Heard, Silent};
+ghost use Rattle.gatekeeping.specs.declared.others.Seen.TheVariants.{Differs, Heard, Silent};
 ghost use Rattle.operator_text.specs.declared.status_line.StatusLine.{StatusLine};
 ghost use Rattle.operator_text.specs.declared.status_line.StatusLine.TheVariants.{Book, Fingerprint, Member, Node, Number, Rows, Version};
 

@@ -6,9 +6,9 @@ ghost use Rattle.arrayvec.specs.ArrayVec.{array_vec_len};
 ghost use Rattle.operator_text.specs.StatusLine as spec;
 ghost use Rattle.operator_text.specs.declared.status_line.StatusLine.TheVariants as Lines;
 
-use crate::commits::Bucket;
 use crate::page::MAX_LINE_LEN;
 use arrayvec::ArrayVec;
+use gatekeeping::{Bucket, Seen};
 use itoa::Buffer;
 use sealed_port::Cause;
 
@@ -54,18 +54,6 @@ pub enum Refusal {
     Invalid,
     Spent,
     Timeout,
-}
-
-/// What a node sees of another member.
-#[derive(Clone, Copy, Debug, Default, PartialEq, Eq)]
-pub enum Seen {
-    /// The number of seconds since the member's last datagram.
-    Heard(u64),
-    /// No datagram came of late.
-    #[default]
-    Silent,
-    /// The member's tokens differ from the node's.
-    Differs,
 }
 
 /// A line of a STATUS report.

@@ -5,7 +5,7 @@ ghost use Rattle.datagram_port.specs.Port.{IsWithin};
 
 use bundle_port::{BundlePort, is_bundle};
 use datagram_port::{Coming, ListPort, Port, PortEntry, Received, Sender};
-use node_log::Gatekeeper;
+use gatekeeping::Gatekeeper;
 use std::alloc::Global;
 use std::test::Fail;
 

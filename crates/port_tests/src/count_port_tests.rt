@@ -2,8 +2,7 @@
 
 use count_port::CountPort;
 use datagram_port::{Coming, ListPort, Port, Sender};
-use node_log::Gatekeeper;
-use operator_text::{Other, Seen};
+use gatekeeping::{Gatekeeper, Other, Seen};
 use otp_core::Next;
 use sealed_port::SetAside;
 use std::alloc::Global;

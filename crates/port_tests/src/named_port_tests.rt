@@ -5,8 +5,8 @@ ghost use Rattle.datagram_port.specs.Port.{IsWithin};
 
 use datagram_port::{Coming, ListPort, Port, PortEntry, Received, Sender};
 use floor_store::{Proposal, Span};
+use gatekeeping::Older;
 use named_port::{NamedPort, Names};
-use node_log::Older;
 use otp_core::{Factor, MAX_TOKENS, Settings};
 use std::alloc::Global;
 use std::test::Fail;

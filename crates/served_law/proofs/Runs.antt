@@ -30,18 +30,18 @@ use Rattle.served_law.proofs.Uses.{after_append, uses_append}
 
 pub run_is_one_use : {S : Type 0} (g : Ghosts S) (finds : sql.Held S → Type 0) (cluster : NamedCluster) (moment : ℕ) (serving : Serving) (answers : ℕ → Bool → Bool → Type 0) (result : Result Served Fault) (text : List ℕ)
     (names : List (List ℕ)) (rows : List Entry) (setting : Setting) (left : Content) (run : HasServedNamed g finds cluster moment serving answers result text)
-    → IsSound run setting names rows → (view_of g run.last.store).leaves left → IsOneUse run setting names rows left
+    → IsSound run setting names rows → (view_of g run.over.last.store).leaves left → IsOneUse run setting names rows left
 run_is_one_use g finds cluster moment serving answers result text names rows setting left run sound leaves =
     let me = serving.place.me in
     let terms = terms_in run names in
     let found = store_found run names rows in
-    let serves = run.served_is.serves.serves in
-    let made : (view_of g run.first.store).content ≡ with_next_boot (view_of g run.found).content = run.in_boot.raises.writes.makes.ok (run_starts_clean (view_of g) serves sound.stays) in
-    let boot : (view_of g run.first.store).content.boot ≡ run.boot = ap (λ (c : Content). c.boot) made ∙ sym (run.boot_is sound.known.clean) in
+    let serves = run.over.served_is.serves.serves in
+    let made : (view_of g run.over.first.store).content ≡ with_next_boot (view_of g run.found).content = run.over.in_boot.raises.writes.makes.ok (run_starts_clean (view_of g) serves sound.stays) in
+    let boot : (view_of g run.over.first.store).content.boot ≡ run.over.boot = ap (λ (c : Content). c.boot) made ∙ sym (run.over.boot_is sound.known.clean) in
     let member = seated_member g finds cluster moment serving answers result text names rows setting run sound.known sound.members in
-    subst (λ (t : TranslatorRecord). IsUse (view_of g) serves setting me terms bare found (handed_events t run.served_is.serves.calls) left)
-    (translator_of_opened g finds cluster moment me serving run.import.book run.import.floors run.found run.counts names rows run.boot run.known run.opened sound.known)
-    (run_is_use (sql_held g) setting me terms bare found run.found run.first run.last member run.in_boot (subst IsCount (sym boot) sound.boot) serves sound.stays left leaves)
+    subst (λ (t : TranslatorRecord). IsUse (view_of g) serves setting me terms bare found (handed_events t run.over.served_is.serves.calls) left)
+    (translator_of_opened g finds cluster moment me serving run.import.book run.import.floors run.found run.counts names rows run.over.boot run.over.known run.opened sound.known)
+    (run_is_use (sql_held g) setting me terms bare found run.found run.over.first run.over.last member run.over.in_boot (subst IsCount (sym boot) sound.boot) serves sound.stays left leaves)
 
 -- ---- the runs over one store
 

@@ -221,15 +221,15 @@ module _ {S : Type 0} (g : Ghosts S) (finds : sql.Held S → Type 0) (cluster : 
       (names : List (List ℕ)) (rows : List Entry) (setting : Setting) (run : HasServedNamed g finds cluster moment serving answers result text)
       → HasKnownRows g cluster.bond names run.found.inner rows → setting.n ≡ serving.place.n
       → IsSeatedMember (sql_held g) setting serving.place.me (served_terms names cluster serving run.import.book) bare
-      (store_by_names names rows run.found.inner.mirror) run.found run.first
+      (store_by_names names rows run.found.inner.mirror) run.found run.over.first
   seated_member moment serving answers result text names rows setting run its members =
       let is = seated_opened serving.settings moment serving.place.me run.import.book run.import.floors run.found run.counts names rows
       (served_terms names cluster serving run.import.book) run.opened its refl refl in
       let in_setting : serving.place ≡ place_in setting serving.place.me = λ i. record { me = serving.place.me; n = sym members i } in
       record {
-        config = λ i. record { book = run.of_book i; limits = run.of_limits i };
-        key = run.of_key;
-        place = run.of_place ∙ in_setting;
+        config = λ i. record { book = run.over.of_book i; limits = run.over.of_limits i };
+        key = run.over.of_key;
+        place = run.over.of_place ∙ in_setting;
         fits = is.fits;
         content = is.content;
         seats = is.seats;

@@ -47,21 +47,21 @@ module _ {S : Type 0} {g : Ghosts S} {finds : sql.Held S → Type 0} {cluster : 
   -- what the process received, and what it offered, by its own numbers
   abbrev pub entries_of : List (List ℕ) → List PortEvent
   entries_of names =
-      handed_events (first_translator names serving.place.me (terms_in names) run.boot run.known)
-      run.served_is.serves.calls
+      handed_events (first_translator names serving.place.me (terms_in names) run.over.boot run.over.known)
+      run.over.served_is.serves.calls
 
   -- What a history asks of the run. The rows of the store that it found are known, and its members are the setting's.
   -- The database's disk was clean at the start of each stretch of turns and at the end, and its boot is in range.
   pub record IsSound (setting : Setting) (names : List (List ℕ)) (rows : List Entry) : Type 0 where
     pub known : HasKnownRows g cluster.bond names run.found.inner rows
     pub members : setting.n ≡ serving.place.n
-    pub stays : StaysClean (view_of g) run.served_is.serves.serves
-    pub boot : IsCount run.boot
+    pub stays : StaysClean (view_of g) run.over.served_is.serves.serves
+    pub boot : IsCount run.over.boot
 
   -- the run is one use of the store that it found, and a stop left `left` of its tokens
   abbrev pub IsOneUse : Setting → List (List ℕ) → List Entry → Content → Type 0
   IsOneUse setting names rows left =
-      IsUse (view_of g) run.served_is.serves.serves setting serving.place.me (terms_in names) bare
+      IsUse (view_of g) run.over.served_is.serves.serves setting serving.place.me (terms_in names) bare
       (store_found names rows) (entries_of names) left
 
 -- ---- All runs over one store
@@ -103,7 +103,7 @@ module _ {S U : Type 0} (g : Ghosts S) (finds : sql.Held S → Type 0) (answers 
     pub of_node : run.serving.place.me ≡ node
     pub sound : IsSound served setting names run.rows
     pub holds : HoldsStore g run.cluster.bond names served.opened.conn store
-    pub leaves : (view_of g served.last.store).leaves run.left
+    pub leaves : (view_of g served.over.last.store).leaves run.left
 
   -- the store of a history after the run: the rows without a token of the users file are the ones that the run found
   abbrev pub store_left : (store : Store) (run : NamedRun U) → IsRunOver store run → Store

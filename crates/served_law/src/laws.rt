@@ -86,7 +86,7 @@ pub fn served_names_are_seated<S: Alter + Drop, D: Database<S>, U: Stop>()
         → HasKnownRows S.Store cluster.bond names run.found.inner rows → setting.n ≡ serving.place.n
         → IsSeatedMember (sql_held S.Store) setting serving.place.me
         (served_terms names cluster serving run.import.book) bare
-        (store_by_names names rows run.found.inner.mirror) run.found run.first }
+        (store_by_names names rows run.found.inner.mirror) run.found run.over.first }
     // The same if the command ended with a fault.
     ensures failed { (cluster : NamedCluster) (moment : ℕ) (serving : Serving)
         (result : Result Served Fault) (text : List ℕ) (names : List (List ℕ)) (rows : List Entry) (setting : Setting)
@@ -94,7 +94,7 @@ pub fn served_names_are_seated<S: Alter + Drop, D: Database<S>, U: Stop>()
         → HasKnownRows S.Store cluster.bond names run.found.inner rows → setting.n ≡ serving.place.n
         → IsSeatedMember (sql_held S.Store) setting serving.place.me
         (served_terms names cluster serving run.import.book) bare
-        (store_by_names names rows run.found.inner.mirror) run.found run.first }
+        (store_by_names names rows run.found.inner.mirror) run.found run.over.first }
 {}
 
 /// Translators: the translator of a node that is served by names is the one of its process in that history.
@@ -120,13 +120,13 @@ pub fn served_names_are_processes<S: Alter + Drop, D: Database<S>, U: Stop>()
         (result : Result Served Fault) (text : List ℕ) (names : List (List ℕ)) (rows : List Entry) (setting : Setting)
         (left : Content)
         (run : HasServedNamed S.Store D.finds cluster moment serving (U.answers until) result text)
-        → IsSound run setting names rows → (view_of S.Store run.last.store).leaves left
+        → IsSound run setting names rows → (view_of S.Store run.over.last.store).leaves left
         → IsOneUse run setting names rows left }
     // The same if the command ended with a fault.
     ensures failed { (cluster : NamedCluster) (moment : ℕ) (serving : Serving)
         (result : Result Served Fault) (text : List ℕ) (names : List (List ℕ)) (rows : List Entry) (setting : Setting)
         (left : Content) (run : HasServedNamed S.Store D.finds cluster moment serving unasked result text)
-        → IsSound run setting names rows → (view_of S.Store run.last.store).leaves left
+        → IsSound run setting names rows → (view_of S.Store run.over.last.store).leaves left
         → IsOneUse run setting names rows left }
     // Each input from a member's address is what the translator handed in for one of the events that came to it.
     ensures inputs { (cluster : NamedCluster) (moment : ℕ) (serving : Serving) (until : U)
@@ -135,7 +135,7 @@ pub fn served_names_are_processes<S: Alter + Drop, D: Database<S>, U: Stop>()
         (run : HasServedNamed S.Store D.finds cluster moment serving (U.answers until) result text)
         (one : IsOneUse run setting names rows left) (i place from : ℕ) (part : Part) (read : Option Envelope)
         → slice_get one.was.parts i ≡ Some part → slice_get part.taken place ≡ Some (Peer from read)
-        → ReadsEvent names serving.place.me (terms_in run names) run.served_is.serves.calls from read }
+        → ReadsEvent names serving.place.me (terms_in run names) run.over.served_is.serves.calls from read }
 {
     named_ports_tell_envelopes();
 }

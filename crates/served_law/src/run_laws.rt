@@ -126,11 +126,11 @@ pub fn commands_can_be_broken<S: Alter + Drop, D: Database<S>, U: Stop>()
     ensures unclean { (cluster : NamedCluster) (moment : ℕ) (serving : Serving) (result : Result Served Fault)
         (text : List ℕ) (names : List (List ℕ)) (rows : List Entry) (setting : Setting)
         (run : HasServedNamed S.Store D.finds cluster moment serving unasked result text)
-        → (StaysClean (view_of S.Store) run.served_is.serves.serves → ⊥) → IsSound run setting names rows → ⊥ }
+        → (StaysClean (view_of S.Store) run.over.served_is.serves.serves → ⊥) → IsSound run setting names rows → ⊥ }
     ensures past_the_last_boot { (cluster : NamedCluster) (moment : ℕ) (serving : Serving)
         (result : Result Served Fault) (text : List ℕ) (names : List (List ℕ)) (rows : List Entry) (setting : Setting)
         (run : HasServedNamed S.Store D.finds cluster moment serving unasked result text)
-        → (IsCount run.boot → ⊥) → IsSound run setting names rows → ⊥ }
+        → (IsCount run.over.boot → ⊥) → IsSound run setting names rows → ⊥ }
 {}
 
 /// Worked cases and counterexamples: each condition of uses by names fails for minimal ones.

@@ -6,7 +6,7 @@ use Rattle.datagram_port.specs.Port.{Faulted, PortEvent}
 use Rattle.named_wire.specs.Datagram.{datagram_at, datagram_bytes}
 use Rattle.named_wire.specs.Head.{head_at}
 use Rattle.vote_wire.specs.Key.{tag_of}
-use Rattle.node_log.specs.declared.gatekeeper.Fell.{Fell}
+use Rattle.gatekeeping.specs.declared.gatekeeper.Fell.{Fell}
 use Rattle.floor_port.specs.Examples.{from_1}
 use Rattle.floor_port.specs.Packer.{PackerRecord}
 use Rattle.floor_port.proofs.worked.calls_can_be_broken.Goals as goal

@@ -14,5 +14,5 @@ returns-clause-failed g c = λ cluster moment serving result text names rows set
 
 pub returns-clause-inputs : goal.returns-clause-inputs
 returns-clause-inputs g c = λ cluster moment serving until result text names rows setting left run one i place from part read at taken.
-    c.named_ports_tell_envelopes.ensures.inputs_in_parts names setting serving.place.me run.boot run.known (terms_in run names) (store_found run names rows) one.was.parts run.served_is.serves.calls left one.was.is one.was.recorded
+    c.named_ports_tell_envelopes.ensures.inputs_in_parts names setting serving.place.me run.over.boot run.over.known (terms_in run names) (store_found run names rows) one.was.parts run.over.served_is.serves.calls left one.was.is one.was.recorded
     i place from part read at taken

@@ -1,5 +1,5 @@
 use Rattle.std.proofs.Common.{List, sym, subst}
-use Rattle.node_log.specs.declared.gatekeeper.Fell.{Fell}
+use Rattle.gatekeeping.specs.declared.gatekeeper.Fell.{Fell}
 use Rattle.floor_port.specs.Runs.{AreUntold, at_start, fells_over}
 use Rattle.floor_port.proofs.FellLemmas.{untold_taken}
 use Rattle.floor_port.proofs.port.FloorPort.take_fell.Goals as goal

@@ -1,7 +1,9 @@
 //! What a port counted since a process began.
 
+use crate::commits::CommitTimes;
+use crate::others::{MAX_OTHERS, Other};
+use crate::refused::Refused;
 use arrayvec::ArrayVec;
-use operator_text::{CommitTimes, Other, Refused};
 use sealed_port::Unopened;
 
 /// What a port counted since a process began. No number goes beyond `u64::MAX`.
@@ -19,7 +21,7 @@ pub struct Counters {
     pub commit_times: CommitTimes,
     pub unopened: Unopened,
     /// What is seen of the other members, in ascending order.
-    pub others: ArrayVec<Other, 8>,
+    pub others: ArrayVec<Other, MAX_OTHERS>,
 }
 
 impl Counters {

@@ -1,6 +1,6 @@
 -- Commits by the time that they took.
 use Rattle.std.specs.Prelude.{ℕ, ◌+◌, ◌-◌, ◌^◌, min}
-use Rattle.operator_text.specs.declared.commits.CommitTimes.{CommitTimes}
+use Rattle.gatekeeping.specs.declared.commits.CommitTimes.{CommitTimes}
 
 -- the number of all commits, at most the greatest number of 64 bits
 abbrev pub commits_of : CommitTimes → ℕ

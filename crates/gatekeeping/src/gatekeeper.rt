@@ -1,7 +1,7 @@
 //! The trait of a port that tells which datagrams it passed over, and that operators ask.
 
 ghost use Rattle.std.specs.Prelude.{◌≡◌, None};
-ghost use Rattle.node_log.specs.Differing.{nobody};
+ghost use Rattle.gatekeeping.specs.Members.{nobody};
 ghost use Rattle.sealed_port.specs.Causes.{nothing};
 
 use crate::counters::Counters;
@@ -35,10 +35,10 @@ pub const PLACES: usize = 10;
 pub trait Gatekeeper: Port {
     ghost use Rattle.std.specs.Prelude.{◌≡◌, ℕ, Bool, List, [], Option, None};
     ghost use Rattle.datagram_port.specs.Port.{Grows, PortEvent};
-    ghost use Rattle.node_log.specs.Boots.{nobody_heard};
-    ghost use Rattle.node_log.specs.Differing.{nobody};
-    ghost use Rattle.node_log.specs.declared.gatekeeper.Fell.{Fell as FellMember};
-    ghost use Rattle.node_log.specs.declared.gatekeeper.Older.{Older as OlderDatagram};
+    ghost use Rattle.gatekeeping.specs.Members.{nobody_heard};
+    ghost use Rattle.gatekeeping.specs.Members.{nobody};
+    ghost use Rattle.gatekeeping.specs.declared.gatekeeper.Fell.{Fell as FellMember};
+    ghost use Rattle.gatekeeping.specs.declared.gatekeeper.Older.{Older as OlderDatagram};
     ghost use Rattle.sealed_port.specs.Aside.{AsideRecord, oldest, others};
     ghost use Rattle.sealed_port.specs.Causes.{nothing};
     ghost use Rattle.sealed_port.specs.declared.cause.Unopened.{Unopened as UnopenedCounts};

@@ -1,7 +1,7 @@
 //! Commits by the time that they took.
 
 ghost use Rattle.std.specs.Prelude.{◌≡◌};
-ghost use Rattle.operator_text.specs.Commits.{commits_of};
+ghost use Rattle.gatekeeping.specs.Commits.{commits_of};
 
 /// A bucket of commits, by the time that they took.
 #[derive(Clone, Copy, Debug, PartialEq, Eq)]

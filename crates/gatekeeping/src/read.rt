@@ -1,7 +1,7 @@
 //! The datagrams from members' addresses that a node reads.
 
 ghost use Rattle.std.specs.Prelude.{◌≡◌};
-ghost use Rattle.node_log.specs.Read.{is_read};
+ghost use Rattle.gatekeeping.specs.Read.{is_read};
 
 use vote_wire::{ClusterKey, read_message};
 
