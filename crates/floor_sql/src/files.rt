@@ -1,6 +1,7 @@
 //! The files of a store, and whether they still stand at their paths.
 
-use std::fs;
+use crate::folder::FolderLook;
+use std::fs::{self, Metadata};
 use std::os::unix::fs::MetadataExt;
 use std::rt::Files;
 
@@ -14,12 +15,16 @@ pub struct FileId {
 
 /// Returns what tells the file at `path` from others, or None if its metadata can't be had. Follows links.
 pub fn file_id<F: Files>(files: &F, path: &str) -> Option<FileId> {
-    let found = fs::metadata(files, path).ok()?;
-    Some(FileId {
+    Some(file_id_of(&fs::metadata(files, path).ok()?))
+}
+
+/// Returns what tells a file of this metadata from others.
+pub(crate) fn file_id_of(found: &Metadata) -> FileId {
+    FileId {
         device: found.dev(),
         inode: found.ino(),
         names: found.nlink(),
-    })
+    }
 }
 
 /// A file that stood at its path when it was found.
@@ -46,11 +51,18 @@ impl PlacedFile {
 ///
 /// The database is looked for before its store is opened, and again at each commit: a file that takes its place
 /// meanwhile is seen. The log is looked for once it is there, which the opening sees to.
+///
+/// While no name in their folder changes, a commit looks at the folder alone, and at the files once a second. Linux gives
+/// a file that was looked at another time at its next write, which the next sync of the log has to store.
 #[derive(Drop)]
 pub struct StoreFiles {
     rt: HostRuntime,
     database: Option<PlacedFile>,
     log: Option<PlacedFile>,
+    // The folder of both files, unless the database is behind a link.
+    folder: Option<String>,
+    // The folder when both files were last found, if a later change of a name shows.
+    found_in: Option<FolderLook>,
 }
 
 /// Returns the database at `path`, or None if it can't be found.
@@ -64,6 +76,18 @@ fn log_at(rt: &HostRuntime, path: &str) -> Option<PlacedFile> {
     PlacedFile::found(rt, format!(in rt.alloc(); "{}-wal", real.as_str()).ok()?)
 }
 
+/// Returns the folder of the database at `path`, or None if it is behind a link or can't be found.
+fn folder_of(rt: &HostRuntime, path: &str) -> Option<String> {
+    if fs::symlink_metadata(rt, path).ok()?.is_symlink() {
+        return None;
+    }
+    let folder = match path.rsplit_once('/') {
+        Some((folder, _)) => folder,
+        None => ".",
+    };
+    format!(in rt.alloc(); "{folder}/").ok()
+}
+
 impl StoreFiles {
     /// Returns the files of the store at `path`, before it is opened.
     pub fn at(rt: &HostRuntime, path: &str) -> Self {
@@ -71,26 +95,48 @@ impl StoreFiles {
             rt: *rt,
             database: database_at(rt, path),
             log: None,
+            folder: folder_of(rt, path),
+            found_in: None,
         }
     }
 
     /// Returns the files with the log that stands beside the database now.
     pub(crate) fn with_log(self) -> Self {
-        let StoreFiles { rt, database, .. } = self;
-        let log = match &database {
-            Some(database) => log_at(&rt, database.path.as_str()),
+        let log = match &self.database {
+            Some(database) => log_at(&self.rt, database.path.as_str()),
             None => None,
         };
-        StoreFiles { rt, database, log }
+        StoreFiles { log, ..self }
     }
 
-    /// Returns whether both files still stand at their paths.
-    pub(crate) fn are_in_place(&self) -> bool {
+    /// Returns what is found of the folder now, or None if its names aren't those of the files.
+    fn folder_now(&self) -> Option<FolderLook> {
+        FolderLook::at(&self.rt, self.folder.as_ref()?.as_str())
+    }
+
+    /// Returns whether both files are found at their paths.
+    fn are_found(&self) -> bool {
         match (&self.database, &self.log) {
             (Some(database), Some(log)) => {
                 database.is_in_place(&self.rt) && log.is_in_place(&self.rt)
             }
             _ => false,
         }
+    }
+
+    /// Returns whether both files still stand at their paths.
+    pub(crate) fn are_in_place(&mut self) -> bool {
+        let now = self.folder_now();
+        if let (Some(now), Some(before)) = (&now, &self.found_in)
+            && now.is_as(before)
+        {
+            return true;
+        }
+        let are_found = self.are_found();
+        self.found_in = match now {
+            Some(now) if are_found && now.is_settled() => Some(now),
+            _ => None,
+        };
+        are_found
     }
 }

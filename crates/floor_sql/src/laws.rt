@@ -1,6 +1,6 @@
 //! The laws of a store across stops, and the worked cases and counterexamples of its definitions.
 
-ghost use Rattle.std.specs.Prelude.{◌≡◌, ◌≢◌, ℕ, ℤ, ◌+◌, length, pos, false, true, List, [], ◌∷◌, None, Some, Ok, Err, IsTrue, ⊤};
+ghost use Rattle.std.specs.Prelude.{◌≡◌, ◌≢◌, ℕ, ℤ, ◌+◌, length, map, pos, false, true, List, [], ◌∷◌, None, Some, Ok, Err, IsTrue, ⊤};
 ghost use Rattle.sqlite_disk.specs.declared.Disk.{Ghosts};
 ghost use Rattle.sqlite.specs.declared.types.Value.TheVariants.{Int, Null};
 ghost use Rattle.sqlite.specs.Effect.{Database};
@@ -13,6 +13,7 @@ ghost use Rattle.floor_store.specs.Content.{Content, opening_content};
 ghost use Rattle.floor_store.specs.Records.{span_of};
 ghost use Rattle.floor_sql.specs.Broken.{IsOne, IsSecond, db_at, db_of, old_db_at, old_db_of, named_db, old_token_db, put_of, refused, showing, shut_state, small_content, small_db, small_state, tables_at, token_content, token_db, token_db_of, trees_of};
 ghost use Rattle.floor_sql.specs.Created.{AreMade, IsForeign, Opens, first_schema, no_schema};
+ghost use Rattle.floor_sql.specs.Folder.{room_after};
 ghost use Rattle.floor_sql.specs.Held.{HasAudit, HasCommitted, HasSame, HasTables, HasTablesAs, Leaves, Mirrors, MirrorsLast, SqlHeld, failures_of};
 ghost use Rattle.floor_sql.specs.Migrate.{HoldsUndrifted, IsMigrated, IsUsableUndrifted, Migrates};
 ghost use Rattle.floor_sql.specs.Schema.{floor_schema, most_rows, schema_of, undrifted_schema};
@@ -463,6 +464,13 @@ pub fn refusals_are_worked()
     ensures disk { fault_of (SqliteFailure SystemIoFailure) ≡ Disk }
     ensures corrupt { fault_of (SqliteFailure DatabaseCorrupt) ≡ Disk }
     ensures text { (fault : CompileError) → fault_of (SqlInputError fault) ≡ Unusable }
+{}
+
+/// Worked cases. A change of a folder may have the time of the one before it for 3 s where whole seconds are kept, and
+/// for 100 ms elsewhere.
+pub fn folders_are_worked()
+    ensures { map room_after (0 ∷ 1 ∷ 5_000_000_000 ∷ 5_000_000_001 ∷ [])
+        ≡ 3_000_000_000 ∷ 100_000_000 ∷ 3_000_000_000 ∷ 100_000_000 ∷ [] }
 {}
 
 /// Counterexamples: each promise of a write to the tables fails for a minimal one.

@@ -303,8 +303,10 @@ impl<S: Alter> SqlStore<S> {
     }
 
     /// Returns whether the files of the store stand at their paths. A store that watches none is in its place.
-    fn is_in_place(&self) -> bool {
-        match &self.files {
+    fn is_in_place(&mut self) -> bool
+        ensures { self.new ≡ self.old }
+    {
+        match &mut self.files {
             Some(files) => files.are_in_place(),
             None => true,
         }
