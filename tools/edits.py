@@ -11,6 +11,8 @@ import sys
 from pathlib import Path
 
 TOP = Path(__file__).resolve().parent.parent
+# The line of the last try of a mutant.
+STATE = re.compile(r"untried$|tried: refused\b|tried: not refused\b")
 
 
 class BadEdit(Exception):
@@ -69,8 +71,8 @@ def read_mutants(kind, crate):
     if len(set(names)) < len(names):
         raise BadEdit(f"{path}: {max(names, key=names.count)} is there twice")
     for edit in edits:
-        if not edit.state:
-            raise BadEdit(f"{path} [{edit.name}]: neither `tried:` nor `untried`")
+        if not STATE.match(edit.state or ""):
+            raise BadEdit(f"{path} [{edit.name}]: neither `tried: refused`, `tried: not refused` nor `untried`")
         if (kind == "definitions") != (edit.refused_by is not None):
             raise BadEdit(f"{path} [{edit.name}]: `refused by:` is for definitions")
     return edits
