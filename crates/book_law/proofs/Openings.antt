@@ -15,13 +15,13 @@ use Rattle.book_law.proofs.Uses.{served_leads, uses_leave, written_is, writing_n
 
 -- ---- where an action stands in two lists
 
-place : (xs ys : List Action) (k : ℕ) (d : Action) → slice_get (xs ++ ys) k ≡ Some d → (slice_get xs k ≡ Some d) ⊎ ((m : ℕ) × (slice_get ys m ≡ Some d) × (take k (xs ++ ys) ≡ xs ++ take m ys))
+pub place : (xs ys : List Action) (k : ℕ) (d : Action) → slice_get (xs ++ ys) k ≡ Some d → (slice_get xs k ≡ Some d) ⊎ ((m : ℕ) × (slice_get ys m ≡ Some d) × (take k (xs ++ ys) ≡ xs ++ take m ys))
 place [] ys k d at = inr (k, at, refl)
 place (x ∷ xs) ys zero d at = inl at
 place (x ∷ xs) ys (suc k) d at =
     ⊎_elim (λ (q : slice_get xs k ≡ Some d). inl q) (λ (r : (m : ℕ) × (slice_get ys m ≡ Some d) × (take k (xs ++ ys) ≡ xs ++ take m ys)). inr (r.0, r.1, ap (λ l. x ∷ l) r.2)) (place xs ys k d at)
 
-abbrev IsOpening : Action → Type 0
+abbrev pub IsOpening : Action → Type 0
 IsOpening (Opens node terms) = Unit {0}
 IsOpening (FailsToOpen node raised) = ⊥
 IsOpening (Takes node input) = ⊥
@@ -36,7 +36,7 @@ IsOpening (OpensGate node token) = ⊥
 IsOpening (Raises node token floor) = ⊥
 
 -- another action is no opening
-no_opening : (d : Action) (node : ℕ) (terms : Terms) → (IsOpening d → ⊥) → Some d ≡ Some (Opens node terms) → ⊥
+pub no_opening : (d : Action) (node : ℕ) (terms : Terms) → (IsOpening d → ⊥) → Some d ≡ Some (Opens node terms) → ⊥
 no_opening d node terms none at = none (subst IsOpening (sym (same_Some d (Opens node terms) at)) tt)
 
 terms_or : Terms → Action → Terms
@@ -53,12 +53,12 @@ terms_or other (Unlocks node token) = other
 terms_or other (OpensGate node token) = other
 terms_or other (Raises node token floor) = other
 
-same_terms : (node at : ℕ) (one other : Terms) → Some (Opens node one) ≡ Some (Opens at other) → one ≡ other
+pub same_terms : (node at : ℕ) (one other : Terms) → Some (Opens node one) ≡ Some (Opens at other) → one ≡ other
 unfolding terms_or
 same_terms node at one other is = ap (terms_or one) (same_Some (Opens node one) (Opens at other) is)
 
 -- none of the actions opens the node's store
-abbrev NoOpening : ℕ → List Action → Type 0
+abbrev pub NoOpening : ℕ → List Action → Type 0
 NoOpening node actions = (k : ℕ) (terms : Terms) → slice_get actions k ≡ Some (Opens node terms) → ⊥
 
 idle_none : (node : ℕ) (actions : List Action) → IsIdle node actions → NoOpening node actions
@@ -71,7 +71,7 @@ serving_none node [] serving k terms at = none-some (Opens node terms) at
 serving_none node (d ∷ actions) serving zero terms at = subst (IsServing node) (same_Some d (Opens node terms) at) serving.0 refl
 serving_none node (d ∷ actions) serving (suc k) terms at = serving_none node actions serving.1 k terms at
 
-both_none : (node : ℕ) (xs ys : List Action) → NoOpening node xs → NoOpening node ys → NoOpening node (xs ++ ys)
+pub both_none : (node : ℕ) (xs ys : List Action) → NoOpening node xs → NoOpening node ys → NoOpening node (xs ++ ys)
 both_none node xs ys one other k terms at =
     ⊎_elim (λ (q : slice_get xs k ≡ Some (Opens node terms)). one k terms q)
     (λ (r : (m : ℕ) × (slice_get ys m ≡ Some (Opens node terms)) × (take k (xs ++ ys) ≡ xs ++ take m ys)). other r.0 terms r.1) (place xs ys k (Opens node terms) at)

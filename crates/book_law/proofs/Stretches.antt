@@ -32,7 +32,7 @@ use Rattle.book_law.proofs.Sizes.{events_size}
 
 -- ---- the clearing of a gate
 
-cleared_size : (terms : Terms) (o : Option ℕ) (s : NodeState) → length (state_cleared terms o s).content.rows ≡ length s.content.rows
+pub cleared_size : (terms : Terms) (o : Option ℕ) (s : NodeState) → length (state_cleared terms o s).content.rows ≡ length s.content.rows
 cleared_size terms None s = refl
 cleared_size terms (Some t) s = unlocked_size (number_to_unlock terms t s)
   where
@@ -55,7 +55,7 @@ cleared_number terms found fits number s runs size =
 
 -- ---- an act
 
-same_parts : {S : Type 0} (old new : Hosted S) → IsSameNode old new → member_of new ≡ member_of old
+pub same_parts : {S : Type 0} (old new : Hosted S) → IsSameNode old new → member_of new ≡ member_of old
 same_parts old new same =
     ap (λ x. record { config = record { book = x; limits = new.limits }; key = new.key; place = new.voter.place }) same.book
     ∙ ap (λ x. record { config = record { book = old.book; limits = x }; key = new.key; place = new.voter.place }) same.limits
@@ -63,18 +63,18 @@ same_parts old new same =
     ∙ ap (λ x. record { config = record { book = old.book; limits = old.limits }; key = old.key; place = x }) same.place
 
 module _ {S : Type 0} (held : S → Held) (terms : Terms) (found : Store) (fits : do_fit terms found ≡ true) (stood now : Hosted S) where
-  act_clean : (unlocked : Option ℕ) (result : Result Bool NodeFault) → ActsAs held unlocked stood now result → (held now.store).is_clean → (held stood.store).is_clean
+  pub act_clean : (unlocked : Option ℕ) (result : Result Bool NodeFault) → ActsAs held unlocked stood now result → (held now.store).is_clean → (held stood.store).is_clean
   act_clean None result (inl reads) clean = reads.keeps.makes.clean clean
   act_clean None result (inr same) clean = subst (λ (n : Hosted S). (held n.store).is_clean) same clean
   act_clean (Some number) result unlocks clean = unlocks.writes.makes.clean clean
 
   -- the node after an act
-  record Acted (unlocked : Option ℕ) : Type 0 where
-    state : state_of held now ≡ state_cleared terms (token_cleared terms unlocked) (state_of held stood)
-    settled : IsSettled (held now.store)
-    member : member_of now ≡ member_of stood
+  pub record Acted (unlocked : Option ℕ) : Type 0 where
+    pub state : state_of held now ≡ state_cleared terms (token_cleared terms unlocked) (state_of held stood)
+    pub settled : IsSettled (held now.store)
+    pub member : member_of now ≡ member_of stood
 
-  acted : (unlocked : Option ℕ) → ActsAs held unlocked stood now (Ok true) → (held now.store).is_clean → IsSettled (held stood.store) → length (held stood.store).content.rows ≡ length terms.seats → Acted unlocked
+  pub acted : (unlocked : Option ℕ) → ActsAs held unlocked stood now (Ok true) → (held now.store).is_clean → IsSettled (held stood.store) → length (held stood.store).content.rows ≡ length terms.seats → Acted unlocked
   acted None (inl reads) clean settled size =
       let same : (held now.store).content ≡ (held stood.store).content = reads.keeps.makes.ok clean in
       record {
@@ -95,7 +95,7 @@ module _ {S : Type 0} (held : S → Held) (terms : Terms) (found : Store) (fits 
   }
 
   -- a stop after an act that failed leaves the content before it, or the act's
-  act_stops : (unlocked : Option ℕ) (fault : NodeFault) (content : Content) → ActsAs held unlocked stood now (Err fault) → (held now.store).is_clean → IsSettled (held stood.store)
+  pub act_stops : (unlocked : Option ℕ) (fault : NodeFault) (content : Content) → ActsAs held unlocked stood now (Err fault) → (held now.store).is_clean → IsSettled (held stood.store)
       → length (held stood.store).content.rows ≡ length terms.seats → (held now.store).leaves content
       → (content ≡ (held stood.store).content) ⊎ (content ≡ (state_cleared terms (token_cleared terms unlocked) (state_of held stood)).content)
   act_stops None fault content (inl reads) clean settled size leaves =
@@ -119,7 +119,7 @@ none_left : (parts : List Part) → AreLeftOut parts [] []
 none_left [] = tt
 none_left (part ∷ parts) = (refl, refl)
 
-first_some : (first : Option (List PortEvent)) (entries more : List PortEvent) → Grows (option_map receives_in first) (Some entries) more → (before : List PortEvent) × (first ≡ Some before)
+pub first_some : (first : Option (List PortEvent)) (entries more : List PortEvent) → Grows (option_map receives_in first) (Some entries) more → (before : List PortEvent) × (first ≡ Some before)
 first_some None entries more grows = absurd (none-some entries grows)
 first_some (Some before) entries more grows = (before, refl)
 

@@ -5,6 +5,8 @@ pub mod Seated
 pub mod Raised
 pub mod Enrolled
 pub mod Devices
+pub mod Orders
 pub mod Processes
 pub mod Runs
 pub mod Openings
+pub mod OrderedDevices

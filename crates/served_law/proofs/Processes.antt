@@ -22,13 +22,13 @@ use Rattle.served_law.specs.Processes.{AreClean, IsUse, MayEndWith, RunsIn, Stay
 -- ---- acts and stretches
 
 module _ {S : Type 0} (held : S → Held) where
-  acts_as : (old new : Hosted S) (result : Result Bool NodeFault) (act : operator_acts held old new result) → ActsAs held (number_unlocked held old new result act) old new result
+  pub acts_as : (old new : Hosted S) (result : Result Bool NodeFault) (act : operator_acts held old new result) → ActsAs held (number_unlocked held old new result act) old new result
   acts_as old new result (inl unlocks) = unlocks.1
   acts_as old new result (inr (inl reads)) = inl reads
   acts_as old new result (inr (inr nothing)) = inr nothing.1
 
   module _ (old : Hosted S) (first : Option (List PortEvent)) (asked : Option (List (Option ℕ))) (turns : ℕ) where
-    are_served : (stretches : List (Stretch S)) (now : Hosted S) (entries : Option (List PortEvent)) (told : Option (List (Option ℕ))) (left : ℕ)
+    pub are_served : (stretches : List (Stretch S)) (now : Hosted S) (entries : Option (List PortEvent)) (told : Option (List (Option ℕ))) (left : ℕ)
         (are : AreServed held (operator_acts held) old first asked turns stretches now entries told left) → AreClean held stretches now
         → AreServedOf held old first (with_numbers held old first asked turns stretches now entries told left are) now entries
     are_served [] now entries told left are clean = (are.0, are.1)

@@ -6,6 +6,7 @@ use Rattle.oath_node.specs.Hosted.{Hosted}
 use Rattle.oathd_database.specs.Stretches.{Stretch}
 use Rattle.book_law.specs.Lives.{Enrols, Unlocks}
 use Rattle.book_law.specs.Uses.{StoreUse, Writes}
+use Rattle.order_law.specs.Steps.{Does, Step}
 use Rattle.served_law.specs.Runs.{NamedUse, WritesBy}
 
 -- a stretch of one turn that began with the node, and stood at a small one before the act after it
@@ -26,3 +27,7 @@ two_commands U = WritesBy (Enrols 1 0 5) ∷ WritesBy (Unlocks 1 0) ∷ []
 -- the same as uses of a history
 abbrev pub two_writes : List StoreUse
 two_writes = Writes (Enrols 1 0 5) ∷ Writes (Unlocks 1 0) ∷ []
+
+-- the same as steps
+abbrev pub two_steps : List Step
+two_steps = Does (Enrols 1 0 5) ∷ Does (Unlocks 1 0) ∷ []

@@ -24,17 +24,29 @@ ghost use Rattle.oathd_database.specs.declared.serving.Serving.{Serving};
 ghost use Rattle.oathd_roster.specs.Opened.{HasOpenedNamed};
 ghost use Rattle.oathd_roster.specs.Served.{HasServedNamed};
 ghost use Rattle.oathd_roster.specs.declared.cluster.NamedCluster.{NamedCluster};
-ghost use Rattle.book_law.specs.Lives.{Setting, Store, Terms};
+ghost use Rattle.book_law.specs.Lives.{Setting, Store, Terms, accepted_in, floor_in};
 ghost use Rattle.book_law.specs.Seeds.{AreGreatest, HaveSeedsOnce, UsesGreatest};
-ghost use Rattle.book_law.specs.Uses.{IsSeatedMember, Part, StoreUse};
+ghost use Rattle.book_law.specs.Uses.{IsSeatedMember, IsTrueReply, Part, StoreUse, first_store};
 ghost use Rattle.name_law.specs.Ports.{ReadsEvent, first_translator};
 ghost use Rattle.served_law.specs.Devices.{HaveDevices, HaveOneSeed};
 ghost use Rattle.served_law.specs.Enrolled.{IsEnrolledFrom};
+ghost use Rattle.admit_core.specs.Throttle.{SpacesFailures};
+ghost use Rattle.cluster_sim.specs.Answered.{IsOk};
+ghost use Rattle.otp_core.specs.Acceptance.{HaveSingleUse, KeepRealTimeOrder};
+ghost use Rattle.seat_law.specs.Seeds.{AreGivenUp, HaveSingleUseOfSeeds, KeepOrderOfSeeds};
+ghost use Rattle.vote_core.specs.Safety.{HaveMajority};
+ghost use Rattle.book_law.specs.Justified.{JustifiesAll};
+ghost use Rattle.book_law.specs.Results.{results_in};
+ghost use Rattle.name_law.specs.Unforged.{IsSized};
+ghost use Rattle.order_law.specs.Interleavings.{Item, history_of};
+ghost use Rattle.order_law.specs.Steps.{Replies, Says};
+ghost use Rattle.served_law.specs.Orders.{HasNamedSteps, HasStepsOf, IsOrderOf, IsRunInOrder};
 ghost use Rattle.served_law.specs.Runs.{AreAllNamedUses, AreNamedUses, AreOf, HasNamedHistory, HasUsesOf, IsOneUse, IsSound, NamedUse, terms_in, view_of};
 ghost use Rattle.served_law.specs.Seated.{HasKnownRows, HasRows, IsSeatedStore, served_terms, store_by_names, tokens_of};
 
 use book_law::uses_make_histories;
 use name_law::named_ports_tell_envelopes;
+use named_order_law::{unforged_interleavings_are_safe, unforged_interleavings_keep_devices};
 use oathd_database::{Database, Stop};
 use sqlite::Alter;
 
@@ -174,4 +186,91 @@ pub fn served_names_make_histories<S: Alter + Drop, D: Database<S>, U: Stop>()
         → HasNamedHistory S.Store D.finds U.answers setting names named are }
 {
     uses_make_histories();
+}
+
+/// Orders: all runs by names over the members' stores are steps in the order in which they happened.
+///
+/// At any moment, each order of what the members did so far that keeps each member's own is an interleaving of
+/// `order_law`. If each vote that is heard was said before in it, `served_names_are_safe` says what holds of it.
+pub fn served_names_have_steps<S: Alter + Drop, D: Database<S>, U: Stop>()
+    ensures served { (cluster : NamedCluster) (moment : ℕ) (serving : Serving) (until : U)
+        (result : Result Served Fault) (text : List ℕ) (names : List (List ℕ)) (rows : List Entry) (setting : Setting)
+        (left : Content)
+        (run : HasServedNamed S.Store D.finds cluster moment serving (U.answers until) result text)
+        → IsSound run setting names rows → (view_of S.Store run.over.last.store).leaves left
+        → IsRunInOrder run setting names rows left }
+    // The same if the command ended with a fault.
+    ensures failed { (cluster : NamedCluster) (moment : ℕ) (serving : Serving)
+        (result : Result Served Fault) (text : List ℕ) (names : List (List ℕ)) (rows : List Entry) (setting : Setting)
+        (left : Content) (run : HasServedNamed S.Store D.finds cluster moment serving unasked result text)
+        → IsSound run setting names rows → (view_of S.Store run.over.last.store).leaves left
+        → IsRunInOrder run setting names rows left }
+    ensures uses { (setting : Setting) (node : ℕ) (names : List (List ℕ)) (store : Store) (named : List (NamedUse U))
+        (are : AreNamedUses S.Store D.finds U.answers setting node names store named)
+        → setting.tokens ≡ length names
+        → HasStepsOf S.Store D.finds U.answers setting node names store named are }
+    ensures members { (setting : Setting) (names : List (List ℕ)) (named : ℕ → List (NamedUse U))
+        (are : AreAllNamedUses S.Store D.finds U.answers setting names named) → setting.tokens ≡ length names
+        → HasNamedSteps S.Store D.finds U.answers setting names named are }
+{}
+
+/// Safety of runs: in each order of all members' runs by names, acceptances and answers keep all promises.
+///
+/// A vote that is heard was said before in the order, byte for byte: nobody has the key, and time goes forward.
+pub fn served_names_are_safe<S: Alter + Drop, D: Database<S>, U: Stop>()
+    ensures single_use { (setting : Setting) (names : List (List ℕ)) (named : ℕ → List (NamedUse U))
+        (are : AreAllNamedUses S.Store D.finds U.answers setting names named) (items : List Item)
+        → IsSized names setting → IsOrderOf S.Store D.finds U.answers setting names named are items
+        → HaveSingleUse (accepted_in setting (history_of items)) }
+    ensures in_order { (setting : Setting) (names : List (List ℕ)) (named : ℕ → List (NamedUse U))
+        (are : AreAllNamedUses S.Store D.finds U.answers setting names named) (items : List Item)
+        → IsSized names setting → IsOrderOf S.Store D.finds U.answers setting names named are items
+        → KeepRealTimeOrder (accepted_in setting (history_of items)) }
+    ensures majority { (setting : Setting) (names : List (List ℕ)) (named : ℕ → List (NamedUse U))
+        (are : AreAllNamedUses S.Store D.finds U.answers setting names named) (items : List Item)
+        → IsSized names setting → IsOrderOf S.Store D.finds U.answers setting names named are items
+        → HaveMajority setting.n (floor_in setting (history_of items)) (accepted_in setting (history_of items)) }
+    ensures justified { (setting : Setting) (names : List (List ℕ)) (named : ℕ → List (NamedUse U))
+        (are : AreAllNamedUses S.Store D.finds U.answers setting names named) (items : List Item)
+        → IsSized names setting → IsOrderOf S.Store D.finds U.answers setting names named are items
+        → JustifiesAll setting (history_of items) (accepted_in setting (history_of items)) }
+    ensures spaced { (setting : Setting) (names : List (List ℕ)) (named : ℕ → List (NamedUse U))
+        (are : AreAllNamedUses S.Store D.finds U.answers setting names named) (items : List Item) (node token : ℕ)
+        → IsSized names setting → IsOrderOf S.Store D.finds U.answers setting names named are items
+        → SpacesFailures (results_in setting (history_of items) node token) }
+    // Each reply that a member's port recorded, and that begins as an `OK`, belongs to an acceptance.
+    ensures replied { (setting : Setting) (names : List (List ℕ)) (named : ℕ → List (NamedUse U))
+        (are : AreAllNamedUses S.Store D.finds U.answers setting names named) (items : List Item) (i node client : ℕ)
+        (bytes : List ℕ)
+        → IsSized names setting → IsOrderOf S.Store D.finds U.answers setting names named are items
+        → slice_get items i ≡ Some (record { node = node; step = Says (Replies client bytes) }) → IsOk bytes
+        → IsTrueReply setting (history_of items) node client bytes }
+{
+    unforged_interleavings_are_safe();
+}
+
+/// Single use by device: in each order of all members' runs by names, no factor of a device is accepted twice, whatever
+/// its names are.
+///
+/// `seed` gives the device of each name. A vote that is heard was said before in the order, byte for byte. No users file
+/// of a run has a device twice, and in the store that a run found rows of one device have one seed.
+pub fn served_devices_are_safe<S: Alter + Drop, D: Database<S>, U: Stop>()
+    ensures single_use { (seed : ℕ → ℕ) (setting : Setting) (names : List (List ℕ)) (named : ℕ → List (NamedUse U))
+        (are : AreAllNamedUses S.Store D.finds U.answers setting names named) (items : List Item)
+        → IsSized names setting → IsOrderOf S.Store D.finds U.answers setting names named are items
+        → ((node : ℕ) → HaveDevices S.Store D.finds U.answers setting node names seed (first_store setting node)
+        (named node) (are node)) → HaveSingleUseOfSeeds seed (accepted_in setting (history_of items)) }
+    ensures in_order { (seed : ℕ → ℕ) (setting : Setting) (names : List (List ℕ)) (named : ℕ → List (NamedUse U))
+        (are : AreAllNamedUses S.Store D.finds U.answers setting names named) (items : List Item)
+        → IsSized names setting → IsOrderOf S.Store D.finds U.answers setting names named are items
+        → ((node : ℕ) → HaveDevices S.Store D.finds U.answers setting node names seed (first_store setting node)
+        (named node) (are node)) → KeepOrderOfSeeds seed (accepted_in setting (history_of items)) }
+    ensures majority { (seed : ℕ → ℕ) (setting : Setting) (names : List (List ℕ)) (named : ℕ → List (NamedUse U))
+        (are : AreAllNamedUses S.Store D.finds U.answers setting names named) (items : List Item)
+        → IsSized names setting → IsOrderOf S.Store D.finds U.answers setting names named are items
+        → ((node : ℕ) → HaveDevices S.Store D.finds U.answers setting node names seed (first_store setting node)
+        (named node) (are node))
+        → AreGivenUp setting.n (floor_in setting (history_of items)) seed (accepted_in setting (history_of items)) }
+{
+    unforged_interleavings_keep_devices();
 }

@@ -6,14 +6,17 @@
 #![tactic(auto)]
 
 mod laws;
+mod order_laws;
 mod run_laws;
 mod worked;
 
 pub use laws::{
     named_translators_are_first, opened_names_are_enrolled, opened_names_are_seated,
-    opened_names_have_rows, served_names_are_processes, served_names_are_seated,
+    opened_names_have_rows, served_devices_are_safe, served_names_are_processes,
+    served_names_are_safe, served_names_are_seated, served_names_have_steps,
     served_names_make_histories, served_names_open_greatest,
 };
+pub use order_laws::{orders_of_runs_can_be_broken, runs_in_order_can_be_broken};
 pub use run_laws::{
     commands_can_be_broken, devices_can_be_broken, named_uses_can_be_broken, runs_can_be_broken,
     stretches_are_numbered,

@@ -1,0 +1,11 @@
+//! The law of the steps of nodes that speak by names, in the order in which they happened.
+#![tactic(auto)]
+
+mod laws;
+mod worked;
+
+pub use laws::{
+    unforged_interleavings_are_genuine, unforged_interleavings_are_safe,
+    unforged_interleavings_keep_devices,
+};
+pub use worked::named_interleavings_are_worked;

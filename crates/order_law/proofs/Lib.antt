@@ -1,0 +1,10 @@
+pub mod Batches
+pub mod Causes
+pub mod Devices
+pub mod Examples
+pub mod Login
+pub mod Own
+pub mod Replies
+pub mod Served
+pub mod Stretches
+pub mod Walk

@@ -1,0 +1,4 @@
+pub mod Examples
+pub mod Interleavings
+pub mod Steps
+pub mod Devices

@@ -1,0 +1,244 @@
+-- Runs of commands by names have made steps, and each order of all members' steps is an interleaving.
+use Rattle.std.proofs.Common.{◌≡◌, ℕ, Bool, List, [], ◌∷◌, ◌++◌, Option, Some, None, refl, sym, ap, ◌∙◌, subst, inl, inr}
+use Rattle.std.specs.Prelude.{◌⊎◌, Result, Err, length}
+use Rattle.sqlite.specs.Store.{Ghosts}
+use Rattle.sqlite.specs.Held as sql
+use Rattle.datagram_port.specs.Port.{PortEvent}
+use Rattle.floor_store.specs.Content.{Content, with_next_boot}
+use Rattle.floor_store.specs.Held.{Held}
+use Rattle.floor_store.specs.Range.{IsCount}
+use Rattle.floor_sql.specs.Held.{sql_held}
+use Rattle.floor_sql.specs.declared.put.Put.{Put}
+use Rattle.roster_sql.specs.declared.entry.Entry.{Entry}
+use Rattle.named_port.specs.Runs.{handed_events}
+use Rattle.named_port.specs.Translator.{TranslatorRecord}
+use Rattle.oath_node.specs.Calls.{IsOpened}
+use Rattle.oath_node.specs.Hosted.{Hosted}
+use Rattle.oath_node.specs.TurnServing.{ServesUntil}
+use Rattle.oath_node.specs.declared.serve_fault.ServeFault.{ServeFault}
+use Rattle.oath_node.specs.declared.turns.Served.{Served}
+use Rattle.seated_store.specs.Seated.{SeatedRecord, seated_held}
+use Rattle.vote_wire.specs.Key.{bare}
+use Rattle.oathd_database.specs.Stretches.{FailsToAct, operator_acts}
+use Rattle.oathd_database.specs.declared.fault.Fault.{Fault}
+use Rattle.oathd_database.specs.declared.serving.Serving.{Serving}
+use Rattle.oathd_roster.specs.Served.{HasServedNamed}
+use Rattle.oathd_roster.specs.declared.cluster.NamedCluster.{NamedCluster}
+use Rattle.book_law.specs.Lives.{Setting, Store, Terms}
+use Rattle.book_law.specs.Stretches.{AreServed as AreServedOf, Stretch as StretchOf, token_cleared, tokens_cleared}
+use Rattle.book_law.specs.Uses.{AreUses, IsSeatedMember, StoreUse, first_store, store_after, written_store}
+use Rattle.named_order_law.specs.Bytes.{IsUnforgedInterleaving}
+use Rattle.order_law.specs.Interleavings.{Item, steps_at}
+use Rattle.order_law.specs.Steps.{place_after, Place, AreOfProcess, AreSteps, Closed, Commits, Does, Ends, Gets, HasSteps, Hears, Loses, Pauses, Says, Starts, Step, place_in_end}
+use Rattle.order_law.proofs.Batches.{end_append, steps_append}
+use Rattle.order_law.proofs.Stretches.{act_fails, turns_end}
+use Rattle.order_law.proofs.Walk.{NoGets, never_replaced, no_append}
+use Rattle.served_law.specs.Enrolled.{enrolments, opening_uses}
+use Rattle.served_law.specs.Orders.{AreStepsOfRun, HasNamedSteps, HasStepsOf, IsInOrder, IsOrderOf, IsRunInOrder, MayClear, enrolling, opening_steps}
+use Rattle.served_law.specs.Processes.{RunsIn, StaysClean, number_unlocked, stretches_of}
+use Rattle.served_law.specs.Runs.{AreAllNamedUses, AreNamedUses, IsRunOver, IsSound, NamedRun, NamedUse, RunsBy, WritesBy, answers_of, store_found, store_left, terms_in, view_of}
+use Rattle.served_law.specs.Seated.{store_by_names}
+use Rattle.served_law.proofs.Enrolled.{enrolled_opened}
+use Rattle.served_law.proofs.Processes.{acts_as, are_served, run_starts_clean}
+use Rattle.served_law.proofs.Seated.{seated_member, translator_of_opened}
+
+-- ---- a run over a seated store
+
+module _ {S : Type 0} (held : S → Held) (setting : Setting) (node : ℕ) (terms : Terms) (port : List ℕ) (found : Store) (store : SeatedRecord S) (old new : Hosted (SeatedRecord S))
+    (member : IsSeatedMember held setting node terms port found store old) (opened : IsOpened (seated_held held) store old) (count : IsCount (seated_held held old.store).content.boot) where
+  abbrev view : SeatedRecord S → Held
+  view = seated_held held
+
+  record EndsInOrder (entries : List PortEvent) (answers : ℕ → Bool → Bool → Type 0) (stretches : List (StretchOf (SeatedRecord S))) (from : Hosted (SeatedRecord S)) (first : Option (List PortEvent)) (asked : Option (List (Option ℕ))) (left_turns : ℕ) (end : Result Served ServeFault)
+      (left : Content) (ends : ServesUntil view from new first (Some entries) asked None left_turns answers end ⊎ FailsToAct view (operator_acts view) from new first (Some entries) asked None left_turns end) : Type 0 where
+    tokens : List (Option ℕ)
+    tokens_are : MayClear view terms stretches from new first (Some entries) asked None left_turns answers end ends tokens
+    has : HasSteps setting node terms port found tokens entries left
+
+  ends_in_order : (entries : List PortEvent) (answers : ℕ → Bool → Bool → Type 0) (stretches : List (StretchOf (SeatedRecord S))) (from : Hosted (SeatedRecord S)) (first : Option (List PortEvent)) (asked : Option (List (Option ℕ))) (left_turns : ℕ) (end : Result Served ServeFault) (left : Content)
+      → (view old.store).is_clean → AreServedOf view old (Some []) stretches from first → (view new.store).is_clean → (view new.store).leaves left
+      → (ends : ServesUntil view from new first (Some entries) asked None left_turns answers end ⊎ FailsToAct view (operator_acts view) from new first (Some entries) asked None left_turns end)
+      → EndsInOrder entries answers stretches from first asked left_turns end left ends
+  ends_in_order entries answers stretches from first asked left_turns end left begins are clean leaves (inl until) = record {
+    tokens = tokens_cleared terms stretches [];
+    tokens_are = refl;
+    has = turns_end held setting node terms port found store old member opened begins count stretches from new first entries asked None until.most end left are until.serves clean leaves;
+  }
+  ends_in_order entries answers stretches from first asked left_turns end left begins are clean leaves (inr fails) =
+      let number : Option ℕ = number_unlocked view fails.stood new (Err fails.fault) fails.fails in
+      elim (act_fails held setting node terms port found store old member opened begins count stretches from fails.stood new first entries asked None fails.count fails.served number fails.fault left
+      are fails.serves (acts_as view fails.stood new (Err fails.fault) fails.fails) clean leaves) [
+        | inl has ↦ record { tokens = tokens_cleared terms stretches []; tokens_are = inl refl; has = has }
+        | inr has ↦ record { tokens = tokens_cleared terms stretches (token_cleared terms number ∷ []); tokens_are = inr refl; has = has }
+      ]
+
+  run_in_order : {entries : List PortEvent} {turns : ℕ} {answers : ℕ → Bool → Bool → Type 0} {result : Result Served ServeFault} (run : RunsIn view old new entries turns answers result) → StaysClean view run → (left : Content) → (view new.store).leaves left
+      → IsInOrder view run setting node terms port found entries left
+  run_in_order {entries} {turns} {answers} run stays left leaves =
+      let begins = run_starts_clean view run stays in
+      let are = are_served view old (Some []) None turns run.stretches run.from run.from_first run.from_asked run.left run.before stays.at_starts in
+      let it = ends_in_order entries answers (stretches_of view run) run.from run.from_first run.from_asked run.left run.end left begins are stays.at_end leaves run.last in
+      record { tokens = it.tokens; tokens_are = it.tokens_are; has = it.has }
+
+pub named_run_in_order : {S : Type 0} (g : Ghosts S) (finds : sql.Held S → Type 0) (cluster : NamedCluster) (moment : ℕ) (serving : Serving) (answers : ℕ → Bool → Bool → Type 0) (result : Result Served Fault) (text : List ℕ)
+    (names : List (List ℕ)) (rows : List Entry) (setting : Setting) (left : Content) (run : HasServedNamed g finds cluster moment serving answers result text)
+    → IsSound run setting names rows → (view_of g run.over.last.store).leaves left → IsRunInOrder run setting names rows left
+named_run_in_order g finds cluster moment serving answers result text names rows setting left run sound leaves =
+    let me = serving.place.me in
+    let terms = terms_in run names in
+    let found = store_found run names rows in
+    let serves = run.over.served_is.serves.serves in
+    let made : (view_of g run.over.first.store).content ≡ with_next_boot (view_of g run.found).content = run.over.in_boot.raises.writes.makes.ok (run_starts_clean (view_of g) serves sound.stays) in
+    let boot : (view_of g run.over.first.store).content.boot ≡ run.over.boot = ap (λ (c : Content). c.boot) made ∙ sym (run.over.boot_is sound.known.clean) in
+    let member = seated_member g finds cluster moment serving answers result text names rows setting run sound.known sound.members in
+    subst (λ (t : TranslatorRecord). IsInOrder (view_of g) serves setting me terms bare found (handed_events t run.over.served_is.serves.calls) left)
+    (translator_of_opened g finds cluster moment me serving run.import.book run.import.floors run.found run.counts names rows run.over.boot run.over.known run.opened sound.known)
+    (run_in_order (sql_held g) setting me terms bare found run.found run.over.first run.over.last member run.over.in_boot (subst IsCount (sym boot) sound.boot) serves sound.stays left leaves)
+
+-- ---- an opening as steps
+
+enrols_steps : (setting : Setting) (node : ℕ) (names : List (List ℕ)) (new : List Entry) (floors : List ℕ) (store : Store) → AreUses setting node store (enrolments node names new floors)
+    → AreSteps setting node (Closed store) (enrolling node names new floors)
+enrols_steps setting node names [] floors store are = tt
+enrols_steps setting node names (entry ∷ new) [] store are = tt
+enrols_steps setting node names (entry ∷ new) (floor ∷ floors) store are = (are.0, enrols_steps setting node names new floors _ are.1)
+
+enrols_end : (setting : Setting) (node : ℕ) (names : List (List ℕ)) (new : List Entry) (floors : List ℕ) (store : Store)
+    → place_in_end setting node (Closed store) (enrolling node names new floors) ≡ Closed (store_after setting (enrolments node names new floors) store)
+enrols_end setting node names [] floors store = refl
+enrols_end setting node names (entry ∷ new) [] store = refl
+enrols_end setting node names (entry ∷ new) (floor ∷ floors) store = enrols_end setting node names new floors _
+
+opens_steps : (setting : Setting) (node : ℕ) (names : List (List ℕ)) (former : List Entry) (puts : List Put) (new : List Entry) (floors : List ℕ) (store : Store)
+    → AreUses setting node store (opening_uses node names former puts new floors) → AreSteps setting node (Closed store) (opening_steps node names former puts new floors)
+opens_steps setting node names former [] new floors store are = enrols_steps setting node names new floors store are
+opens_steps setting node names former (put ∷ puts) new floors store are = (are.0, opens_steps setting node names former puts new floors _ are.1)
+
+opens_end : (setting : Setting) (node : ℕ) (names : List (List ℕ)) (former : List Entry) (puts : List Put) (new : List Entry) (floors : List ℕ) (store : Store)
+    → place_in_end setting node (Closed store) (opening_steps node names former puts new floors) ≡ Closed (store_after setting (opening_uses node names former puts new floors) store)
+opens_end setting node names former [] new floors store = enrols_end setting node names new floors store
+opens_end setting node names former (put ∷ puts) new floors store = opens_end setting node names former puts new floors _
+
+-- ---- no step of a command replaces a store
+
+enrols_no : (node : ℕ) (names : List (List ℕ)) (new : List Entry) (floors : List ℕ) → NoGets (enrolling node names new floors)
+enrols_no node names [] floors = tt
+enrols_no node names (entry ∷ new) [] = tt
+enrols_no node names (entry ∷ new) (floor ∷ floors) = (tt, enrols_no node names new floors)
+
+opens_no : (node : ℕ) (names : List (List ℕ)) (former : List Entry) (puts : List Put) (new : List Entry) (floors : List ℕ) → NoGets (opening_steps node names former puts new floors)
+opens_no node names former [] new floors = enrols_no node names new floors
+opens_no node names former (put ∷ puts) new floors = (tt, opens_no node names former puts new floors)
+
+process_no : (steps : List Step) → AreOfProcess steps → NoGets steps
+process_no [] h = tt
+process_no (Hears receipt ∷ steps) h = (tt, process_no steps h.1)
+process_no (Commits inputs ∷ steps) h = (tt, process_no steps h.1)
+process_no (Says telling ∷ steps) h = (tt, process_no steps h.1)
+process_no (Pauses cleared ∷ steps) h = (tt, process_no steps h.1)
+process_no (Starts terms port ∷ steps) h = absurd h.0
+process_no (Ends kept ∷ steps) h = absurd h.0
+process_no (Does action ∷ steps) h = absurd h.0
+process_no (Loses ∷ steps) h = absurd h.0
+process_no (Gets boot given floor ∷ steps) h = absurd h.0
+
+-- ---- the runs over one store
+
+module _ {S U : Type 0} (g : Ghosts S) (finds : sql.Held S → Type 0) (answers : U → ℕ → Bool → Bool → Type 0) (setting : Setting) (names : List (List ℕ)) (sized : setting.tokens ≡ length names) where
+  record RunSteps (node : ℕ) (store : Store) (run : NamedRun U) (is : IsRunOver g finds answers setting node names store run) : Type 0 where
+    steps : List Step
+    are_of : AreStepsOfRun g finds answers setting node names store run is steps
+    are_steps : AreSteps setting node (Closed store) steps
+    after : place_in_end setting node (Closed store) steps ≡ Closed (store_left g finds answers setting node names store run is)
+    no_gets : NoGets steps
+
+  run_steps : (node : ℕ) (store : Store) (run : NamedRun U) (is : IsRunOver g finds answers setting node names store run) → RunSteps node store run is
+  run_steps node store run is =
+      let served = is.served in
+      let me = run.serving.place.me in
+      let terms = terms_in served names in
+      let found = store_found served names run.rows in
+      let e = enrolled_opened g finds run.cluster run.serving.settings run.moment me served.import.book served.import.floors served.found served.counts names run.rows setting served.opened is.sound.known sized in
+      let one = named_run_in_order g finds run.cluster run.moment run.serving (answers_of answers run.until) run.result run.text names run.rows setting run.left served is.sound is.leaves in
+      let begun : store_by_names names e.former e.content ≡ store = is.holds e.content e.passes e.former e.was in
+      let mine : me ≡ node = is.of_node in
+      let opening : ℕ → List StoreUse = λ n. opening_uses n names e.former e.puts e.new e.floors in
+      let uses : AreUses setting node store (opening node) =
+      subst (λ (n : ℕ). AreUses setting n store (opening n)) mine (subst (λ (s : Store). AreUses setting me s (opening me)) begun e.uses) in
+      let after : store_after setting (opening node) store ≡ found =
+      ap (λ n. store_after setting (opening n) store) (sym mine) ∙ ap (store_after setting (opening me)) (sym begun) ∙ e.after in
+      let first = opening_steps node names e.former e.puts e.new e.floors in
+      let body = one.has.steps in
+      let kept = one.has.kept in
+      let last = Starts terms bare ∷ body ++ Ends kept ∷ [] in
+      let at : place_in_end setting node (Closed store) first ≡ Closed found = opens_end setting node names e.former e.puts e.new e.floors store ∙ ap (λ s. Closed s) after in
+      let are : AreSteps setting node (Closed found) last = subst (λ (n : ℕ). AreSteps setting n (Closed found) last) mine one.has.are in
+      let ends : place_in_end setting node (Closed found) last ≡ Closed (store_left g finds answers setting node names store run is) =
+      ap (λ n. place_in_end setting n (Closed found) last) (sym mine) ∙ one.has.ends in
+      let whole : place_in_end setting node (Closed store) (first ++ last) ≡ Closed (store_left g finds answers setting node names store run is) =
+      end_append setting node (Closed store) first last ∙ ap (λ p. place_in_end setting node p last) at ∙ ends in
+      record {
+        steps = first ++ last;
+        are_of = record { former = e.former; puts = e.puts; new = e.new; floors = e.floors; body = body; kept = kept; of_one = one.has.of_one; recorded = one.has.recorded; found = at; are = refl; after = whole };
+        are_steps = steps_append setting node (Closed store) first last (opens_steps setting node names e.former e.puts e.new e.floors store uses) (subst (λ p. AreSteps setting node p last) (sym at) are);
+        after = whole;
+        no_gets = no_append first last (opens_no node names e.former e.puts e.new e.floors) (tt, no_append body (Ends kept ∷ []) (process_no body one.has.of_one) (tt, tt));
+      }
+
+  pub record AllSteps (node : ℕ) (store : Store) (named : List (NamedUse U)) (are : AreNamedUses g finds answers setting node names store named) : Type 0 where
+    pub has : HasStepsOf g finds answers setting node names store named are
+    pub no_gets : NoGets has.steps
+
+  named_steps : (node : ℕ) (store : Store) (named : List (NamedUse U)) (are : AreNamedUses g finds answers setting node names store named) → AllSteps node store named are
+  named_steps node store [] are = record { has = record { steps = []; are_of = refl; are_steps = tt }; no_gets = tt }
+  named_steps node store (RunsBy run ∷ later) are =
+      let first = run_steps node store run are.0 in
+      let rest = named_steps node (store_left g finds answers setting node names store run are.0) later are.1 in
+      record {
+        has = record {
+          steps = first.steps ++ rest.has.steps;
+          are_of = (first.steps, rest.has.steps, refl, first.are_of, rest.has.are_of);
+          are_steps = steps_append setting node (Closed store) first.steps rest.has.steps first.are_steps (subst (λ p. AreSteps setting node p rest.has.steps) (sym first.after) rest.has.are_steps);
+        };
+        no_gets = no_append first.steps rest.has.steps first.no_gets rest.no_gets;
+      }
+  named_steps node store (WritesBy action ∷ later) are =
+      let rest = named_steps node (written_store setting action store) later are.1 in
+      record {
+        has = record { steps = Does action ∷ rest.has.steps; are_of = (rest.has.steps, refl, rest.has.are_of); are_steps = (are.0, rest.has.are_steps) };
+        no_gets = (tt, rest.no_gets);
+      }
+
+  pub named_has_steps : (node : ℕ) (store : Store) (named : List (NamedUse U)) (are : AreNamedUses g finds answers setting node names store named) → HasStepsOf g finds answers setting node names store named are
+  named_has_steps node store named are = (named_steps node store named are).has
+
+  first_are : (node : ℕ) (place : Place) (steps later : List Step) → AreSteps setting node place (steps ++ later) → AreSteps setting node place steps
+  first_are node place [] later are = tt
+  first_are node place (step ∷ steps) later are = (are.0, first_are node (place_after setting node place step) steps later are.1)
+
+  first_no : (steps later : List Step) → NoGets (steps ++ later) → NoGets steps
+  first_no [] later h = tt
+  first_no (step ∷ steps) later h = (h.0, first_no steps later h.1)
+
+  pub all_named_steps : (named : ℕ → List (NamedUse U)) (are : AreAllNamedUses g finds answers setting names named) → HasNamedSteps g finds answers setting names named are
+  all_named_steps named are =
+      let all : (node : ℕ) → AllSteps node (first_store setting node) (named node) (are node) = λ node. named_steps node (first_store setting node) (named node) (are node) in
+      record {
+        steps = λ node. (all node).has.steps;
+        are_of = λ node. (all node).has.are_of;
+        interleavings = λ items members same. record {
+          members = members;
+          steps = λ node member.
+              let f = same node member in
+              first_are node (Closed (first_store setting node)) (steps_at node items) f.later
+              (subst (λ l. AreSteps setting node (Closed (first_store setting node)) l) f.all_are (all node).has.are_steps);
+          replaced = never_replaced setting items members
+              (λ node member. let f = same node member in first_no (steps_at node items) f.later (subst NoGets f.all_are (all node).no_gets));
+        };
+      }
+
+-- ---- bytes
+
+pub unforged : {S U : Type 0} (g : Ghosts S) (finds : sql.Held S → Type 0) (answers : U → ℕ → Bool → Bool → Type 0) (setting : Setting) (names : List (List ℕ)) (named : ℕ → List (NamedUse U)) (are : AreAllNamedUses g finds answers setting names named)
+    (items : List Item) → IsOrderOf g finds answers setting names named are items → IsUnforgedInterleaving names setting items
+unforged g finds answers setting names named are items h = record { is = h.has.interleavings items h.members h.steps; starts = h.starts; unforged = h.unforged }
