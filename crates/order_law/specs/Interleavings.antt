@@ -96,8 +96,8 @@ pub record WasSaid (said : List Said) (sealed : Sealed) : Type 0 where
   pub place : ℕ
   pub is_there : slice_get said place ≡ Some (ToMemberSaid sealed)
 
--- A process under the terms hears bytes from a member's address. If it reads an envelope of a vote in them, about one of
--- its numbers, some process said this envelope before, under the same key.
+-- A process under the terms hears bytes from a member's address. If it reads an envelope of a vote in them, about one
+-- of its numbers, some process said this envelope before, under the same key.
 abbrev pub HearsSaid : Terms → List ℕ → List Said → ℕ → List ℕ → Type 0
 HearsSaid terms port said from bytes = (envelope : Envelope) → envelope_at port bytes ≡ Some envelope
     → envelope.sender ≡ from → IsOfVote envelope.message → token_of envelope.message < length terms.seats

@@ -25,7 +25,8 @@ telling_of_reply reply = Replies reply.client reply.bytes
 -- what the result of an input says: the envelopes first, and then the replies
 abbrev pub tellings_of : ℕ → Made → List Telling
 tellings_of node made =
-    map (λ (envelope : Envelope). Sends envelope) (map (envelope_from node) made.sends) ++ map telling_of_reply made.replies
+    map (λ (envelope : Envelope). Sends envelope) (map (envelope_from node) made.sends)
+    ++ map telling_of_reply made.replies
 
 -- the entry of an output in the port's record, encoded under the port's key
 abbrev pub offer_of_telling : List ℕ → Telling → PortEvent
@@ -40,13 +41,13 @@ offer_of_telling port (Replies client bytes) = Offered (ToLine client) bytes
 --   Hears: the port hands in the next receipt of a batch.
 --   Commits: the process took the inputs of its batch, and the store has their change.
 --   Says: the process offers its next output to the port.
---   Pauses: the turns end and begin again, between two batches. An operator had the process clear the gate of a token, if
--- there is one.
+--   Pauses: the turns end and begin again, between two batches. An operator had the process clear the gate of a token,
+-- if there is one.
 --   Ends: the process ends, in whatever way. It took the first inputs of its batch, and the store has their change.
 --   Does: a command writes to the store of the node without a process, or a process fails to open it.
 --   Loses: the node has lost its store. Its process ends.
---   Gets: a node that has lost its store gets another one with the boot. It has rows for the given tokens, with floors by
--- token.
+--   Gets: a node that has lost its store gets another one with the boot. It has rows for the given tokens, with floors
+-- by token.
 pub data Step : Type 0 where
   Starts : (terms : Terms) (port : List ℕ) → Step
   Hears : (receipt : Receipt) → Step

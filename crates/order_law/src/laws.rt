@@ -33,8 +33,8 @@ use floor_store::FloorStore;
 
 /// Steps: over any store, a node that `Node::open` opened over a seated store and `run_turns` served has made steps.
 ///
-/// Its port recorded the entries of the steps, in their order. This holds at every end of the turns, with everything that
-/// a stop leaves of what the node sees.
+/// Its port recorded the entries of the steps, in their order. This holds at every end of the turns, with everything
+/// that a stop leaves of what the node sees.
 pub fn served_nodes_have_steps<S: FloorStore>()
     ensures { (setting : Setting) (place : ℕ) (terms : Terms) (port : List ℕ) (found : Store)
         (store : SeatedRecord S) (old new : Hosted (SeatedRecord S)) (entries : List PortEvent)

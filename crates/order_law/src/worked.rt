@@ -63,8 +63,8 @@ pub fn interleavings_can_be_broken()
     // A record with the answer before the line is one of a process by its receives and its offers, and of no steps.
     ensures reversed_record { WasProcess alone 1 silver_alone bare silver_row
         (replied (codes "1") (Accepted 0) ∷ Received (ToLine 7) silver_text ∷ []) silver_taken }
-    ensures reversed { (tokens : List (Option ℕ)) (left : Content) → HasSteps alone 1 silver_alone bare silver_row tokens
-        (replied (codes "1") (Accepted 0) ∷ Received (ToLine 7) silver_text ∷ []) left → ⊥ }
+    ensures reversed { (tokens : List (Option ℕ)) (left : Content) → HasSteps alone 1 silver_alone bare silver_row
+        tokens (replied (codes "1") (Accepted 0) ∷ Received (ToLine 7) silver_text ∷ []) left → ⊥ }
 
     // A node's steps in another order, or with one left out.
     ensures says_before_it_commits { IsInterleaving alone (alone_with (hears_line ∷ says_ok ∷ commits_line ∷ [])) → ⊥ }

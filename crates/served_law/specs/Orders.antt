@@ -93,8 +93,8 @@ module _ {S U : Type 0} (g : Ghosts S) (finds : sql.Held S → Type 0) (answers 
     (setting : Setting) (node : ℕ) (names : List (List ℕ)) where
   -- The steps are the run: raises of the rows `former`, enrolments of new rows, and its process. The process finds what
   -- the run found. Its port recorded what the run received and offered, in the order of the steps.
-  pub record AreStepsOfRun (store : Store) (run : NamedRun U) (is : IsRunOver g finds answers setting node names store run)
-      (steps : List Step) : Type 0 where
+  pub record AreStepsOfRun (store : Store) (run : NamedRun U)
+      (is : IsRunOver g finds answers setting node names store run) (steps : List Step) : Type 0 where
     pub former : List Entry
     pub puts : List Put
     pub new : List Entry

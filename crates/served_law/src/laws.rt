@@ -252,8 +252,8 @@ pub fn served_names_are_safe<S: Alter + Drop, D: Database<S>, U: Stop>()
 /// Single use by device: in each order of all members' runs by names, no factor of a device is accepted twice, whatever
 /// its names are.
 ///
-/// `seed` gives the device of each name. A vote that is heard was said before in the order, byte for byte. No users file
-/// of a run has a device twice, and in the store that a run found rows of one device have one seed.
+/// `seed` gives the device of each name. A vote that is heard was said before in the order, byte for byte. No users
+/// file of a run has a device twice, and in the store that a run found rows of one device have one seed.
 pub fn served_devices_are_safe<S: Alter + Drop, D: Database<S>, U: Stop>()
     ensures single_use { (seed : ℕ → ℕ) (setting : Setting) (names : List (List ℕ)) (named : ℕ → List (NamedUse U))
         (are : AreAllNamedUses S.Store D.finds U.answers setting names named) (items : List Item)
