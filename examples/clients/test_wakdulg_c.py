@@ -2,7 +2,8 @@
 """Tries wakdulg.c by the tests of the Python library: test_wakdulg_c.py [TEST..]
 
 It compiles the library with the address and undefined-behaviour sanitizers of CC (cc), with -lcrypto of OpenSSL, and
-calls it by ctypes.
+calls it by ctypes. The address sanitizer has to be loaded before Python, so the script starts itself again under it. If CC
+has none to load, as clang, the other one is taken alone.
 """
 import ctypes
 import os
@@ -18,6 +19,7 @@ import wakdulg
 from fake_node import FakeNode
 
 HERE = os.path.dirname(os.path.abspath(__file__))
+CC = os.environ.get("CC", "cc")
 KINDS = [None, wakdulg.Refused, wakdulg.Throttled, wakdulg.Undecided, wakdulg.BadField]
 
 
@@ -36,12 +38,33 @@ class Answer(ctypes.Structure):
                 ("number", ctypes.c_uint64)]
 
 
+def address_sanitizer():
+    """Returns the path of CC's address sanitizer, or None."""
+    said, path = (subprocess.run([CC, word], stdout=subprocess.PIPE, text=True, check=True).stdout.strip()
+                  for word in ("--version", "-print-file-name=libasan.so"))
+    return path if os.path.isabs(path) and "clang" not in said else None
+
+
+def is_under_sanitizer():
+    """Returns whether this script was started under the address sanitizer."""
+    return "libasan" in os.environ.get("LD_PRELOAD", "")
+
+
+def start_under_sanitizer():
+    """Starts this script again under the address sanitizer, if CC has one. Python's own leaks aren't told."""
+    path = address_sanitizer()
+    if path and not is_under_sanitizer():
+        os.environ.update(LD_PRELOAD=path, ASAN_OPTIONS="detect_leaks=0")
+        os.execv(sys.executable, [sys.executable, *sys.argv])
+
+
 def compiled(folder):
     """Returns the library, compiled anew."""
     path = os.path.join(folder, "wakdulg.so")
-    subprocess.run([os.environ.get("CC", "cc"), "-std=c11", "-Wall", "-Wextra", "-Werror", "-g", "-shared", "-fPIC",
-                    "-fsanitize=undefined", "-fno-sanitize-recover=all", os.path.join(HERE, "wakdulg.c"), "-o", path,
-                    "-lcrypto"], check=True)
+    sanitizers = "address,undefined" if is_under_sanitizer() else "undefined"
+    subprocess.run([CC, "-std=c11", "-Wall", "-Wextra", "-Werror", "-g", "-shared", "-fPIC", "-fsanitize=" + sanitizers,
+                    "-fno-sanitize-recover=all", os.path.join(HERE, "wakdulg.c"), "-o", path, "-lcrypto"],
+                   check=True, env={name: value for name, value in os.environ.items() if name != "LD_PRELOAD"})
     library = ctypes.CDLL(path)
     library.wakdulg_check.restype = library.wakdulg_resync.restype = Answer
     library.wakdulg_seal.restype = ctypes.c_size_t
@@ -197,4 +220,5 @@ class Tests(test_wakdulg.Tests):
 
 
 if __name__ == "__main__":
+    start_under_sanitizer()
     unittest.main()
