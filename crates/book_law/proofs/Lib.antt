@@ -25,3 +25,4 @@ pub mod Walk
 pub mod Rows
 pub mod Seeds
 pub mod Openings
+pub mod OneDevice

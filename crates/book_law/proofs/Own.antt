@@ -1,15 +1,12 @@
--- The actions of one node, part after part: its process after them, what it offers, and actions that do what a port
--- recorded.
-use Rattle.std.proofs.Common.{◌≡◌, ℕ, zero, suc, true, cond, ◌&&◌, List, [], ◌∷◌, ◌++◌, length, map, refl, sym, ap, ◌∙◌, subst, eqb, ltb}
+-- The actions of one node, part after part: its process after them, and what it offers.
+use Rattle.std.proofs.Common.{◌≡◌, ℕ, suc, true, cond, ◌&&◌, List, [], ◌∷◌, ◌++◌, refl, sym, ap, ◌∙◌, eqb, ltb}
 use Rattle.std.proofs.lemmas.Bool.{and_from, cond-true, cond-false, eq-eqb, ne_eqb}
-use Rattle.std.proofs.lemmas.List.{append-nil, append_assoc}
+use Rattle.std.proofs.lemmas.List.{append_assoc}
 use Rattle.vote_core.specs.Schedule.{last_boot}
-use Rattle.oath_node.specs.Machine.{NodeEvent, NodeState, opened_node}
-use Rattle.oath_node.specs.Turns.{offers_in}
-use Rattle.datagram_port.specs.Port.{PortEvent}
+use Rattle.oath_node.specs.Machine.{opened_node}
 use Rattle.book_law.specs.Lives.{Action, Opens, FailsToOpen, Takes, Offers, Stops, StopsIn, Loses, Remakes, Enrols, Unlocks, OpensGate, Raises, Process, Setting, Store, Terms, Down, Up, do_fit, node_of_action, offers_by, process_after, process_opened, seen_in}
-use Rattle.book_law.specs.Uses.{OwnOutput, offer_of_output, AreOffers, AreServing, IsIdle, IsServing, TakesAndOffersFrom, inputs_at, named_output, own_offers, own_process, run_from}
-use Rattle.book_law.proofs.Serving.{LeaveStore, LeavesStore, serves}
+use Rattle.book_law.specs.Uses.{AreServing, IsIdle, IsServing, own_offers, own_process}
+use Rattle.book_law.proofs.Serving.{LeaveStore, LeavesStore}
 
 -- ---- own actions, one part after the other
 
@@ -120,127 +117,3 @@ all_serving node (d ∷ ds) serving = (serving_leaves node d serving.0, all_serv
 pub leave_append : (node : ℕ) (xs ys : List Action) → LeaveStore node xs → LeaveStore node ys → LeaveStore node (xs ++ ys)
 leave_append node [] ys h k = k
 leave_append node (x ∷ xs) ys h k = (h.0, leave_append node xs ys h.1 k)
-
--- ---- a process that takes the events, and offers what was recorded
-
-abbrev pub AreOwn : ℕ → List Action → Type 0
-AreOwn node [] = Unit {0}
-AreOwn node (d ∷ ds) = (node_of_action d ≡ node) × AreOwn node ds
-
-pub own_append : (node : ℕ) (xs ys : List Action) → AreOwn node xs → AreOwn node ys → AreOwn node (xs ++ ys)
-own_append node [] ys h k = k
-own_append node (x ∷ xs) ys h k = (h.0, own_append node xs ys h.1 k)
-
-pub own_idle : (node other : ℕ) (ds : List Action) → AreOwn node ds → (other ≡ node → ⊥) → IsIdle other ds
-own_idle node other [] own differ = tt
-own_idle node other (d ∷ ds) own differ = ((λ same. differ (same ∙ own.0)), own_idle node other ds own.1 differ)
-
-abbrev takes : ℕ → List NodeEvent → List Action
-takes node [] = []
-takes node (input ∷ inputs) = Takes node input ∷ takes node inputs
-
-abbrev offer_times : ℕ → ℕ → List Action
-offer_times node zero = []
-offer_times node (suc n) = Offers node ∷ offer_times node n
-
-takes_serve : (node : ℕ) (inputs : List NodeEvent) → AreServing node (takes node inputs)
-takes_serve node [] = tt
-takes_serve node (input ∷ inputs) = (tt, takes_serve node inputs)
-
-takes_own : (node : ℕ) (inputs : List NodeEvent) → AreOwn node (takes node inputs)
-takes_own node [] = tt
-takes_own node (input ∷ inputs) = (refl, takes_own node inputs)
-
-takes_take : (node : ℕ) (inputs : List NodeEvent) (ds : List Action) → inputs_at node (takes node inputs ++ ds) ≡ inputs ++ inputs_at node ds
-takes_take node [] ds = refl
-takes_take node (input ∷ inputs) ds =
-    ap (λ is. is ++ inputs_at node (takes node inputs ++ ds)) (cond-true (eqb node node) (input ∷ []) [] (eq-eqb node node refl)) ∙ ap (λ is. input ∷ is) (takes_take node inputs ds)
-
-offer_serves : (node n : ℕ) → AreServing node (offer_times node n)
-offer_serves node zero = tt
-offer_serves node (suc n) = (tt, offer_serves node n)
-
-offer_own : (node n : ℕ) → AreOwn node (offer_times node n)
-offer_own node zero = tt
-offer_own node (suc n) = (refl, offer_own node n)
-
-offer_inputs : (node n : ℕ) → inputs_at node (offer_times node n) ≡ []
-offer_inputs node zero = refl
-offer_inputs node (suc n) = ap (λ is. is ++ inputs_at node (offer_times node n)) (cond-true (eqb node node) [] [] (eq-eqb node node refl)) ∙ offer_inputs node n
-
-serving_append : (node : ℕ) (xs ys : List Action) → AreServing node xs → AreServing node ys → AreServing node (xs ++ ys)
-serving_append node [] ys h k = k
-serving_append node (x ∷ xs) ys h k = (h.0, serving_append node xs ys h.1 k)
-
-takes_offer_none : (setting : Setting) (node e : ℕ) (inputs : List NodeEvent) (p : Process) → own_offers setting node e (takes node inputs) p ≡ []
-unfolding own_offers
-takes_offer_none setting node e [] p = refl
-takes_offer_none setting node e (input ∷ inputs) p =
-    own_first_offers setting node e (Takes node input) (takes node inputs) p refl ∙ takes_offer_none setting node (suc e) inputs (process_after setting e (Takes node input) p)
-
-head_same : {A : Type 0} (x y : A) (xs ys : List A) → x ∷ xs ≡ y ∷ ys → x ≡ y
-head_same x y xs ys e = cc
-
-tail_same : {A : Type 0} (x y : A) (xs ys : List A) → x ∷ xs ≡ y ∷ ys → xs ≡ ys
-tail_same x y xs ys e = cc
-
-no_cons : {A : Type 0} (x : A) (xs : List A) → x ∷ xs ≡ [] → ⊥
-no_cons x xs e = cc
-
-none_named : (terms : Terms) (hs : List OwnOutput) → map (named_output terms) hs ≡ [] → hs ≡ []
-none_named terms [] e = refl
-none_named terms (h ∷ hs) e = absurd (no_cons (named_output terms h) (map (named_output terms) hs) e)
-
--- the offers of the first part of what waits
-offers_first : (setting : Setting) (node e : ℕ) (terms : Terms) (port : List ℕ) (below : Store) (s : NodeState) (waiting : List OwnOutput) (xs ys : List PortEvent) → map (offer_of_output port) waiting ≡ xs ++ ys
-    → AreOffers terms port (own_offers setting node e (offer_times node (length xs)) (Up terms below s (map (named_output terms) waiting))) xs
-unfolding own_offers
-offers_first setting node e terms port below s waiting [] ys is = record { own = []; named = refl; encoded = refl }
-offers_first setting node e terms port below s [] (x ∷ xs) ys is = absurd (no_cons x (xs ++ ys) (sym is))
-offers_first setting node e terms port below s (h ∷ waiting) (x ∷ xs) ys is =
-    let f = offer_of_output port in
-    let rest = offers_first setting node (suc e) terms port below s waiting xs ys (tail_same (f h) x (map f waiting) (xs ++ ys) is) in
-    record {
-      own = h ∷ rest.own;
-      named = own_first_offers setting node e (Offers node) (offer_times node (length xs)) (Up terms below s (map (named_output terms) (h ∷ waiting))) refl ∙ ap (λ os. named_output terms h ∷ os) rest.named;
-      encoded = ap (λ zs. f h ∷ zs) rest.encoded ∙ ap (λ z. z ∷ xs) (head_same (f h) x (map f waiting) (xs ++ ys) is);
-    }
-
--- inputs that the process takes, and offers of the first part of what its machine makes of them
-pub record CanTake (setting : Setting) (node : ℕ) (terms : Terms) (port : List ℕ) (p : Process) (taken : List NodeEvent) (entries : List PortEvent) : Type 0 where
-  pub served : List Action
-  pub does : TakesAndOffersFrom setting node terms port p taken entries served
-  pub own : AreOwn node served
-
-pub can_take : (setting : Setting) (node : ℕ) (terms : Terms) (port : List ℕ) (below : Store) (s : NodeState) (taken : List NodeEvent) (entries rest : List PortEvent)
-    → (run_from setting node terms port s taken).entries ≡ offers_in entries ++ rest → CanTake setting node terms port (Up terms below s []) taken entries
-can_take setting node terms port below s taken entries rest is =
-    let first = takes node taken in
-    let number = length (offers_in entries) in
-    let last = offer_times node number in
-    let p = Up terms below s [] in
-    let took : inputs_at node first ≡ taken = ap (inputs_at node) (sym (append-nil first)) ∙ takes_take node taken [] ∙ append-nil taken in
-    record {
-      served = first ++ last;
-      does = record {
-        serving = serving_append node first last (takes_serve node taken) (offer_serves node number);
-        takes = takes_take node taken last ∙ ap (λ is. taken ++ is) (offer_inputs node number) ∙ append-nil taken;
-        offers = λ e.
-            let g = serves setting node terms port below e first s (takes_serve node taken) in
-            let none : g.offered ≡ [] = none_named terms g.offered (sym g.offers ∙ takes_offer_none setting node e taken p) in
-            let waits : map (offer_of_output port) g.left ≡ offers_in entries ++ rest =
-            ap (λ os. map (offer_of_output port) (os ++ g.left)) (sym none) ∙ sym g.entries ∙ ap (λ events. (run_from setting node terms port s events).entries) took ∙ is in
-            subst (λ os. AreOffers terms port os (offers_in entries))
-            (sym (offers_append setting node e first last p
-            ∙ ap (λ os. os ++ own_offers setting node (number_after first e) last (own_process setting node e first p)) (takes_offer_none setting node e taken p)
-            ∙ ap (own_offers setting node (number_after first e) last) g.process))
-            (offers_first setting node (number_after first e) terms port below _ g.left (offers_in entries) rest waits);
-      };
-      own = own_append node first last (takes_own node taken) (offer_own node number);
-    }
-
--- ---- other nodes' actions
-
-pub idle_append : (node : ℕ) (xs ys : List Action) → IsIdle node xs → IsIdle node ys → IsIdle node (xs ++ ys)
-idle_append node [] ys h k = k
-idle_append node (x ∷ xs) ys h k = (h.0, idle_append node xs ys h.1 k)

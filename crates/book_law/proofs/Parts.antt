@@ -1,4 +1,4 @@
--- A process in parts leads from its opening to its stop, offers what its ports recorded, and has actions.
+-- A process in parts leads from its opening to its stop, and offers what its ports recorded.
 use Rattle.std.proofs.Common.{◌≡◌, ℕ, suc, ◌+◌, List, [], ◌∷◌, ◌++◌, length, map, Option, Some, None, refl, sym, ap, ◌∙◌, subst, arith}
 use Rattle.std.proofs.lemmas.List.{length-append, length-map, map-append, nil_from_length}
 use Rattle.std.proofs.lemmas.List.Elements.{filter-append}
@@ -9,7 +9,7 @@ use Rattle.oath_node.specs.Turns.{is_receive, offers_in}
 use Rattle.datagram_port.specs.Port.{PortEvent}
 use Rattle.book_law.specs.Lives.{Action, OpensGate, Opens, Output, Process, Setting, Stops, Store, Terms, Down, Up, process_opened, seen_in, store_under}
 use Rattle.book_law.specs.Uses.{AreOffers, AreParts, HasParts, IsPart, IsProcessIn, OwnOutput, Part, TakesAndOffersFrom, clearing, entries_in, named_output, offer_of_output, own_offers, own_process, run_from, state_after_part, state_cleared}
-use Rattle.book_law.proofs.Own.{AreOwn, all_idle, all_serving, can_take, idle_offers, idle_process, leave_append, number_after, offers_append, opened_is, own_append, own_first, own_first_offers, process_append}
+use Rattle.book_law.proofs.Own.{all_idle, all_serving, idle_offers, idle_process, leave_append, number_after, offers_append, opened_is, own_first, own_first_offers, process_append}
 use Rattle.book_law.proofs.Serving.{LeaveStore, serves}
 
 -- ---- the clearing of a gate
@@ -23,10 +23,6 @@ cleared_offers : (setting : Setting) (node e : ℕ) (o : Option ℕ) (terms : Te
     → own_offers setting node e (clearing node o ++ rest) (Up terms below s waiting) ≡ own_offers setting node (number_after (clearing node o) e) rest (Up terms below (state_cleared terms o s) waiting)
 cleared_offers setting node e None terms below s waiting rest = refl
 cleared_offers setting node e (Some t) terms below s waiting rest = own_first_offers setting node e (OpensGate node t) rest (Up terms below s waiting) refl
-
-clearing_own : (node : ℕ) (o : Option ℕ) → AreOwn node (clearing node o)
-clearing_own node None = tt
-clearing_own node (Some t) = (refl, tt)
 
 clearing_leaves : (node : ℕ) (o : Option ℕ) → LeaveStore node (clearing node o)
 clearing_leaves node None = tt
@@ -141,24 +137,6 @@ module _ (setting : Setting) (node : ℕ) (terms : Terms) (port : List ℕ) (fou
       subst (λ l. LeaveStore node l) (sym has.2)
       (leave_append node has.0 (more ++ has.1) (all_serving node has.0 has.3.serving)
       (leave_append node more has.1 (clearing_leaves node part.cleared) (parts_leave (state_after_part setting node terms port s part) parts has.1 has.4)))
-
-  -- actions that do the parts
-  pub record OwnParts (s : NodeState) (parts : List Part) : Type 0 where
-    pub actions : List Action
-    pub has : HasParts setting node terms port found s parts actions
-    pub own : AreOwn node actions
-
-  pub own_parts : (s : NodeState) (parts : List Part) (left : Content) → AreParts setting node terms port s parts left → OwnParts s parts
-  own_parts s [] left are = record { actions = []; has = tt; own = tt }
-  own_parts s (part ∷ parts) left are =
-      let c = can_take setting node terms port found s part.taken part.entries are.0.rest are.0.offers in
-      let r = own_parts (state_after_part setting node terms port s part) parts left are.1 in
-      let more = clearing node part.cleared in
-      record {
-        actions = c.served ++ (more ++ r.actions);
-        has = (c.served, r.actions, refl, c.does, r.has);
-        own = own_append node c.served (more ++ r.actions) c.own (own_append node more r.actions (clearing_own node part.cleared) r.own);
-      }
 
   -- ---- from the opening to the stop
 

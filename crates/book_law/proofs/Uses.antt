@@ -1,16 +1,14 @@
 -- The actions of a node's uses lead from store to store, and any uses have a history.
-use Rattle.std.proofs.Common.{◌≡◌, ℕ, zero, suc, ◌<◌, ◌≤◌, ⊎_elim, Bool, true, false, cond, List, [], ◌∷◌, ◌++◌, refl, sym, ap, ◌∙◌, subst, arith, leb, ltb}
-use Rattle.std.proofs.lemmas.Bool.{and_parts, cases_Bool, leb-true, leb-false}
-use Rattle.std.proofs.lemmas.List.{append_assoc}
+use Rattle.std.proofs.Common.{◌≡◌, ℕ, suc, Bool, true, false, cond, List, [], ◌∷◌, ◌++◌, refl, sym, ap, ◌∙◌, subst, ltb}
 use Rattle.floor_store.specs.Content.{Content}
 use Rattle.vote_core.specs.Schedule.{is_member, last_boot}
 use Rattle.oath_node.specs.Machine.{NodeEvent, opened_node}
 use Rattle.oath_node.specs.Turns.{run_at, run_with_events}
 use Rattle.datagram_port.specs.Port.{PortEvent}
 use Rattle.book_law.specs.Lives.{Action, Opens, FailsToOpen, Takes, Offers, Stops, StopsIn, Loses, Remakes, Enrols, Unlocks, OpensGate, Raises, Setting, Store, Terms, Down, Up, first_state, may_enrol, node_of_action, process_after, seen_in, state_of, store_at, store_in_next_boot, store_under, store_with_row}
-use Rattle.book_law.specs.Uses.{AreAllUses, AreUses, HasHistory, HasUses, IsHistoryOf, IsIdle, IsProcess, IsWriting, Serves, ServesInParts, StoreUse, TakesAndOffers, TakesAndOffersFrom, Writes, first_store, inputs_at, member_at, own_process, run_of, store_after, written_store}
-use Rattle.book_law.proofs.Own.{AreOwn, after_idle, all_idle, all_serving, can_take, idle_append, idle_process, leave_append, number_after, opened_is, own_append, own_first, own_idle, process_append}
-use Rattle.book_law.proofs.Parts.{own_parts, parts_lead, parts_leave}
+use Rattle.book_law.specs.Uses.{AreAllUses, AreUses, HasUses, IsHistoryOf, IsProcess, IsWriting, Serves, ServesInParts, StoreUse, TakesAndOffers, Writes, first_store, inputs_at, member_at, own_process, run_of, store_after, written_store}
+use Rattle.book_law.proofs.Own.{after_idle, all_idle, all_serving, idle_process, leave_append, number_after, opened_is, own_first, process_append}
+use Rattle.book_law.proofs.Parts.{parts_lead, parts_leave}
 use Rattle.book_law.proofs.Serving.{LeaveStore, LeavesStore, process_is_own, serves}
 
 -- ---- one use
@@ -127,119 +125,3 @@ stores setting uses history node are is member =
     let has = is node member in
     process_is_own setting 0 node history (first_state setting) member (uses_leave setting node (uses node) (first_store setting node) history (are node) has)
     ∙ uses_end setting node 0 (uses node) (first_store setting node) history (are node) has
-
--- ---- a process that takes the events, and offers what was recorded
-
-record CanServe (setting : Setting) (node : ℕ) (terms : Terms) (port : List ℕ) (found : Store) (taken : List NodeEvent) (entries : List PortEvent) : Type 0 where
-  served : List Action
-  does : TakesAndOffers setting node terms port found taken entries served
-  own : AreOwn node served
-
-can_serve : (setting : Setting) (node : ℕ) (terms : Terms) (port : List ℕ) (found : Store) (taken : List NodeEvent) (entries : List PortEvent) (left : Content) → IsProcess setting node terms port found taken entries left
-    → CanServe setting node terms port found taken entries
-can_serve setting node terms port found taken entries left is =
-    let c = can_take setting node terms port found (opened_node (seen_in found terms.seats)) taken entries is.rest is.offers in
-    record {
-      served = c.served;
-      does = subst (λ p. TakesAndOffersFrom setting node terms port p taken entries c.served) (sym (opened_is terms found is.fits is.boot)) c.does;
-      own = c.own;
-    }
-
--- ---- the uses of one node
-
-record OwnUses (setting : Setting) (node : ℕ) (store : Store) (uses : List StoreUse) : Type 0 where
-  actions : List Action
-  has : HasUses setting node store uses actions
-  own : AreOwn node actions
-
-own_uses : (setting : Setting) (node : ℕ) (uses : List StoreUse) (store : Store) → AreUses setting node store uses → OwnUses setting node store uses
-own_uses setting node [] store are = record { actions = []; has = tt; own = tt }
-own_uses setting node (Serves terms port taken entries left ∷ uses) store are =
-    let r = own_uses setting node uses (store_under terms.seats left store) are.1 in
-    let s = can_serve setting node terms port store taken entries left are.0 in
-    record {
-      actions = Opens node terms ∷ s.served ++ Stops node ∷ r.actions;
-      has = ([], s.served, r.actions, refl, tt, s.does, r.has);
-      own = (refl, own_append node s.served (Stops node ∷ r.actions) s.own (refl, r.own));
-    }
-own_uses setting node (ServesInParts terms port parts left ∷ uses) store are =
-    let r = own_uses setting node uses (store_under terms.seats left store) are.1 in
-    let s = own_parts setting node terms port store (opened_node (seen_in store terms.seats)) parts left are.0.are in
-    record {
-      actions = Opens node terms ∷ s.actions ++ Stops node ∷ r.actions;
-      has = ([], s.actions, r.actions, refl, tt, s.has, r.has);
-      own = (refl, own_append node s.actions (Stops node ∷ r.actions) s.own (refl, r.own));
-    }
-own_uses setting node (Writes d ∷ uses) store are =
-    let r = own_uses setting node uses (written_store setting d store) are.1 in
-    record { actions = d ∷ r.actions; has = ([], r.actions, refl, tt, r.has); own = (writing_node node d are.0, r.own) }
-
--- ---- other nodes' actions before and after them
-
-before_them : (setting : Setting) (node : ℕ) (store : Store) (uses : List StoreUse) (xs ys : List Action) → HasUses setting node store uses ys → IsIdle node xs → HasUses setting node store uses (xs ++ ys)
-before_them setting node store [] xs ys has idle = idle_append node xs ys idle has
-before_them setting node store (Serves terms port taken entries left ∷ uses) xs ys has idle =
-    let tail = Opens node terms ∷ has.1 ++ Stops node ∷ has.2 in
-    (xs ++ has.0, has.1, has.2, ap (λ l. xs ++ l) has.3 ∙ sym (append_assoc xs has.0 tail), idle_append node xs has.0 idle has.4, has.5, has.6)
-before_them setting node store (ServesInParts terms port parts left ∷ uses) xs ys has idle =
-    let tail = Opens node terms ∷ has.1 ++ Stops node ∷ has.2 in
-    (xs ++ has.0, has.1, has.2, ap (λ l. xs ++ l) has.3 ∙ sym (append_assoc xs has.0 tail), idle_append node xs has.0 idle has.4, has.5, has.6)
-before_them setting node store (Writes d ∷ uses) xs ys has idle =
-    (xs ++ has.0, has.1, ap (λ l. xs ++ l) has.2 ∙ sym (append_assoc xs has.0 (d ∷ has.1)), idle_append node xs has.0 idle has.3, has.4)
-
-after_them : (setting : Setting) (node : ℕ) (store : Store) (uses : List StoreUse) (xs ys : List Action) → HasUses setting node store uses xs → IsIdle node ys → HasUses setting node store uses (xs ++ ys)
-after_them setting node store [] xs ys has idle = idle_append node xs ys has idle
-after_them setting node store (Serves terms port taken entries left ∷ uses) xs ys has idle =
-    let tail = Opens node terms ∷ has.1 ++ Stops node ∷ has.2 in
-    let split : xs ++ ys ≡ has.0 ++ (Opens node terms ∷ has.1 ++ Stops node ∷ (has.2 ++ ys)) =
-    ap (λ l. l ++ ys) has.3 ∙ append_assoc has.0 tail ys ∙ ap (λ l. has.0 ++ (Opens node terms ∷ l)) (append_assoc has.1 (Stops node ∷ has.2) ys) in
-    (has.0, has.1, has.2 ++ ys, split, has.4, has.5, after_them setting node (store_under terms.seats left store) uses has.2 ys has.6 idle)
-after_them setting node store (ServesInParts terms port parts left ∷ uses) xs ys has idle =
-    let tail = Opens node terms ∷ has.1 ++ Stops node ∷ has.2 in
-    let split : xs ++ ys ≡ has.0 ++ (Opens node terms ∷ has.1 ++ Stops node ∷ (has.2 ++ ys)) =
-    ap (λ l. l ++ ys) has.3 ∙ append_assoc has.0 tail ys ∙ ap (λ l. has.0 ++ (Opens node terms ∷ l)) (append_assoc has.1 (Stops node ∷ has.2) ys) in
-    (has.0, has.1, has.2 ++ ys, split, has.4, has.5, after_them setting node (store_under terms.seats left store) uses has.2 ys has.6 idle)
-after_them setting node store (Writes d ∷ uses) xs ys has idle =
-    (has.0, has.1 ++ ys, ap (λ l. l ++ ys) has.2 ∙ append_assoc has.0 (d ∷ has.1) ys, has.3, after_them setting node (written_store setting d store) uses has.1 ys has.4 idle)
-
--- ---- the uses of all nodes, one node after the other
-
-record UsesUpTo (setting : Setting) (uses : ℕ → List StoreUse) (last : ℕ) : Type 0 where
-  actions : List Action
-  has : (node : ℕ) → 1 ≤ node → node ≤ last → HasUses setting node (first_store setting node) (uses node) actions
-  idle : (node : ℕ) → last < node → IsIdle node actions
-
-one_more : (setting : Setting) (uses : ℕ → List StoreUse) (last : ℕ) → AreAllUses setting uses → UsesUpTo setting uses last → UsesUpTo setting uses (suc last)
-one_more setting uses last are r =
-    let o = own_uses setting (suc last) (uses (suc last)) (first_store setting (suc last)) (are (suc last)) in
-    record {
-      actions = r.actions ++ o.actions;
-      has = λ node low high.
-          ⊎_elim
-          (λ (q : leb node last ≡ true).
-          let below = leb-true node last q in
-          after_them setting node (first_store setting node) (uses node) r.actions o.actions (r.has node low below) (own_idle (suc last) node o.actions o.own (λ (same : node ≡ suc last). omega (arith, below, same))))
-          (λ (q : leb node last ≡ false).
-          let above = leb-false node last q in
-          let same : suc last ≡ node = omega (arith, above, high) in
-          let last_idle : IsIdle (suc last) r.actions = r.idle (suc last) (omega arith) in
-          subst (λ m. HasUses setting m (first_store setting m) (uses m) (r.actions ++ o.actions)) same
-          (before_them setting (suc last) (first_store setting (suc last)) (uses (suc last)) r.actions o.actions o.has last_idle))
-          (cases_Bool (leb node last));
-      idle = λ node high.
-          idle_append node r.actions o.actions (r.idle node (omega (arith, high))) (own_idle (suc last) node o.actions o.own (λ (same : node ≡ suc last). omega (arith, high, same)));
-    }
-
-up_to : (setting : Setting) (uses : ℕ → List StoreUse) (last : ℕ) → AreAllUses setting uses → UsesUpTo setting uses last
-up_to setting uses zero are = record { actions = []; has = λ node low high. absurd (omega (arith, low, high)); idle = λ node high. tt }
-up_to setting uses (suc last) are = one_more setting uses last are (up_to setting uses last are)
-
-pub has_history : (setting : Setting) (uses : ℕ → List StoreUse) → AreAllUses setting uses → HasHistory setting uses
-has_history setting uses are =
-    let all = up_to setting uses setting.n are in
-    record {
-      history = all.actions;
-      is = λ node member.
-          let parts = and_parts (leb 1 node) (leb node setting.n) member in
-          all.has node (leb-true 1 node parts.0) (leb-true node setting.n parts.1);
-    }

@@ -301,11 +301,6 @@ IsHistoryOf setting uses history =
     (node : ℕ) → is_member setting.n node ≡ true
     → HasUses setting node (first_store setting node) (uses node) history
 
--- a history with the uses
-pub record HasHistory (setting : Setting) (uses : ℕ → List StoreUse) : Type 0 where
-  pub history : List Action
-  pub is : IsHistoryOf setting uses history
-
 -- ---- What was offered
 
 -- the offers in the records of the processes, in order

@@ -35,7 +35,7 @@ ghost use Rattle.book_law.specs.Lives.{Action, Down, ToClient, ToPeer, Enrols, F
 ghost use Rattle.book_law.specs.Promises.{AnswerTruly, BelongsToAcceptance, IsAskedInAction, IsSaidInAction};
 ghost use Rattle.book_law.specs.Results.{results_in};
 ghost use Rattle.book_law.specs.Stretches.{ActsAs, AreServed, Stretch, token_cleared, tokens_cleared};
-ghost use Rattle.book_law.specs.Uses.{AreAllUses, AreOffersOfUses, AreServing, AreUses, HasHistory, HasUses, IsHistoryOf, IsProcess, IsSeatedMember, IsTrueReply, Serves as ServesStore, StoreUse, TakesAndOffers, ToClientOwn, ToPeerOwn, WasProcess, WasProcessIn, Writes, first_store, inputs_at, named_output, offer_of_output, offers_recorded, own_offers, own_process, store_after};
+ghost use Rattle.book_law.specs.Uses.{AreAllUses, AreOffersOfUses, AreServing, AreUses, HasUses, IsHistoryOf, IsProcess, IsSeatedMember, IsTrueReply, Serves as ServesStore, StoreUse, TakesAndOffers, ToClientOwn, ToPeerOwn, WasProcess, WasProcessIn, Writes, first_store, inputs_at, named_output, offer_of_output, offers_recorded, own_offers, own_process, store_after};
 
 use admit_core::{failures_are_spaced, gate_keeps_throttle};
 use floor_store::FloorStore;
@@ -150,14 +150,12 @@ pub fn stretches_are_processes<S: FloorStore>()
         (token_cleared terms unlocked ∷ [])) entries content }
 {}
 
-/// One history: the processes and commands of all nodes, each on what the one before it left, have a history.
+/// Histories of uses: whatever the order between the nodes, a history of their processes and commands keeps what these
+/// left, offered and told.
 ///
-/// If no envelope of a vote is forged in it, all promises of histories hold of these processes.
-pub fn uses_make_histories()
-    ensures history { (setting : Setting) (uses : ℕ → List StoreUse) → AreAllUses setting uses
-        → HasHistory setting uses }
-    // In each history of them, in any order between the nodes, each member's store has at the end what its last use
-    // left.
+/// Each process or command of a node works on what the one before it left. At the end each member's store has what its
+/// last use left.
+pub fn histories_keep_uses()
     ensures stores { (setting : Setting) (uses : ℕ → List StoreUse) (history : List Action) (node : ℕ)
         → AreAllUses setting uses → IsHistoryOf setting uses history → is_member setting.n node ≡ true
         → (state_of setting history).processes node

@@ -10,8 +10,10 @@ mod counts;
 mod laws;
 mod members;
 mod port;
+mod worked;
 
 pub use batches::Batches;
 pub use counts::Counts;
 pub use laws::{batches_are_counted, batches_are_worked, buckets_are_worked};
 pub use port::CountPort;
+pub use worked::{counts_are_worked, members_are_worked};

@@ -8,3 +8,4 @@ pub mod Replies
 pub mod Served
 pub mod Stretches
 pub mod Walk
+pub mod NineNodes

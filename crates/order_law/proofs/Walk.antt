@@ -6,7 +6,7 @@ use Rattle.vote_core.specs.Schedule.{is_member}
 use Rattle.oath_node.specs.Machine.{NodeEvent}
 use Rattle.book_law.specs.Lives.{Action, Opens, FailsToOpen, Takes, Offers, Stops, StopsIn, Loses as LosesStore, Remakes, Enrols, Unlocks, OpensGate, Raises, Sealed, Setting, State, Store, ToPeer, can_be, first_state, has_store, lost_after, may_be_remade, node_of_action, offers_by, process_after, state_after, state_after_action, state_of, state_with}
 use Rattle.book_law.specs.Uses.{IsWriting, own_offers, own_process}
-use Rattle.book_law.proofs.Own.{AreOwn, number_after, own_append, own_first, own_first_offers}
+use Rattle.book_law.proofs.Own.{number_after, own_first, own_first_offers}
 use Rattle.book_law.proofs.Serving.{LeaveStore, LeavesStore, action_at, can_there, store_left}
 use Rattle.book_law.proofs.Uses.{writing_node}
 use Rattle.order_law.specs.Interleavings.{AreOfMembers, IsInterleaving, Item, Said, Stands, first_place, history_of, places_after, said_before, said_by, said_by_output, said_in, steps_at, with_place}
@@ -14,6 +14,14 @@ use Rattle.order_law.specs.Steps.{AreSteps, Closed, Commits, Does, Ends, Gets, G
 use Rattle.order_law.proofs.Own.{own_says, own_step}
 
 -- ---- the actions of a step are its node's, and keep the store
+
+abbrev pub AreOwn : ℕ → List Action → Type 0
+AreOwn node [] = Unit {0}
+AreOwn node (d ∷ ds) = (node_of_action d ≡ node) × AreOwn node ds
+
+own_append : (node : ℕ) (xs ys : List Action) → AreOwn node xs → AreOwn node ys → AreOwn node (xs ++ ys)
+own_append node [] ys h k = k
+own_append node (x ∷ xs) ys h k = (h.0, own_append node xs ys h.1 k)
 
 takings_own : (node : ℕ) (inputs : List NodeEvent) → AreOwn node (takings node inputs)
 takings_own node [] = tt

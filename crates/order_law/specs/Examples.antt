@@ -140,10 +140,6 @@ waits = place_after alone 1 heard commits_line
 abbrev pub answered : Place
 answered = place_after alone 1 waits says_ok
 
--- silver and maple are one device
-abbrev pub one_device : ℕ → ℕ
-one_device token = 0
-
 -- a store in which maple's floor is greater than silver's
 abbrev pub maple_ahead : Store
 maple_ahead = store_with_rows 1 (0 ∷ 1 ∷ []) (λ token. token + 1)

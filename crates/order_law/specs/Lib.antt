@@ -2,3 +2,4 @@ pub mod Examples
 pub mod Interleavings
 pub mod Steps
 pub mod Devices
+pub mod NineNodes

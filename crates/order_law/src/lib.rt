@@ -5,6 +5,7 @@
 #![tactic(auto)]
 
 mod laws;
+mod nine_nodes;
 mod worked;
 
 pub use laws::{
@@ -12,6 +13,7 @@ pub use laws::{
     interleavings_are_actions, interleavings_open_greatest, served_nodes_have_steps,
     stretches_have_steps,
 };
+pub use nine_nodes::nine_nodes_are_safe;
 pub use worked::{
     interleavings_are_worked, interleavings_can_be_broken, orders_are_worked, starts_can_be_broken,
     steps_can_be_broken,

@@ -10,6 +10,7 @@ ghost use Rattle.book_law.specs.Examples.{alone, first_key, grant_for, maple_alo
 ghost use Rattle.book_law.specs.Lives.{Enrols, Offers, Raises, Stops, Takes, accepted_in, answered_in, store_with_rows};
 ghost use Rattle.oath_node.specs.Machine.{Tick};
 ghost use Rattle.book_law.specs.PartExamples.{replied, silver_taken};
+ghost use Rattle.book_law.specs.SeedExamples.{one_device};
 ghost use Rattle.book_law.specs.Uses.{WasProcess};
 ghost use Rattle.datagram_port.specs.Port.{Received};
 ghost use Rattle.datagram_port.specs.declared.port.Sender.TheVariants.{Client as ToLine};
@@ -17,7 +18,7 @@ ghost use Rattle.floor_store.specs.Content.{Content};
 ghost use Rattle.vote_core.specs.Schedule.{last_boot};
 ghost use Rattle.vote_wire.specs.Key.{bare};
 ghost use Rattle.order_law.specs.Devices.{AreGreatestSteps, IsGreatestStep, StartsAreGreatest};
-ghost use Rattle.order_law.specs.Examples.{accepted_twice, accepts, alone_with, answered, ask_to, asks, at, both_start, commits_line, forged, grant_of, granted_early, grants, heard, hears, hears_grant, hears_line, hears_silver, maple_ahead, one_device, opened, says_ok, silver_login, stint, takes_ask, waits};
+ghost use Rattle.order_law.specs.Examples.{accepted_twice, accepts, alone_with, answered, ask_to, asks, at, both_start, commits_line, forged, grant_of, granted_early, grants, heard, hears, hears_grant, hears_line, hears_silver, maple_ahead, opened, says_ok, silver_login, stint, takes_ask, waits};
 ghost use Rattle.order_law.specs.Interleavings.{AreOfMembers, IsCaused, IsCausal, IsInterleaving, ToClientSaid, ToMemberSaid, first_place, history_of, said_in, said_of, steps_at};
 ghost use Rattle.order_law.specs.Steps.{AreOfProcess, Closed, Commits, Does, Ends, Gets, Gone, HasSteps, IsOfProcess, IsStep, Loses, Open, Pauses, Replies, Says, Sends, Starts, actions_of, cleared_in, entries_of_steps, live_at};
 

@@ -1,4 +1,4 @@
--- Runs of commands by names are uses of their stores, and all of them have a history.
+-- Runs of commands by names are uses of their stores.
 use Rattle.std.proofs.Common.{◌≡◌, ℕ, Bool, List, [], ◌∷◌, ◌++◌, refl, sym, ap, ◌∙◌, subst}
 use Rattle.std.specs.Prelude.{Result, length}
 use Rattle.sqlite.specs.Store.{Ghosts}
@@ -16,10 +16,10 @@ use Rattle.oathd_database.specs.declared.serving.Serving.{Serving}
 use Rattle.oathd_roster.specs.Served.{HasServedNamed}
 use Rattle.oathd_roster.specs.declared.cluster.NamedCluster.{NamedCluster}
 use Rattle.book_law.specs.Lives.{Setting, Store}
-use Rattle.book_law.specs.Uses.{AreAllUses, AreUses, HasHistory, ServesInParts, StoreUse, Writes, first_store, store_after, written_store}
+use Rattle.book_law.specs.Uses.{AreUses, ServesInParts, StoreUse, Writes, store_after, written_store}
 use Rattle.served_law.specs.Enrolled.{opening_uses}
 use Rattle.served_law.specs.Processes.{IsUse}
-use Rattle.served_law.specs.Runs.{AreAllNamedUses, AreNamedUses, AreOfRun, HasNamedHistory, HasUsesOf, IsOneUse, IsRunOver, IsSound, NamedRun, NamedUse, RunsBy, WritesBy, answers_of, store_found, store_left, terms_in, view_of}
+use Rattle.served_law.specs.Runs.{AreNamedUses, AreOfRun, HasUsesOf, IsOneUse, IsRunOver, IsSound, NamedRun, NamedUse, RunsBy, WritesBy, answers_of, store_found, store_left, terms_in, view_of}
 use Rattle.served_law.specs.Seated.{store_by_names}
 use Rattle.served_law.proofs.Enrolled.{enrolled_opened}
 use Rattle.served_law.proofs.Processes.{run_is_use, run_starts_clean}
@@ -87,13 +87,3 @@ module _ {S U : Type 0} (g : Ghosts S) (finds : sql.Held S → Type 0) (answers 
   named_uses node store (WritesBy action ∷ later) are =
       let rest = named_uses node (written_store setting action store) later are.1 in
       record { uses = Writes action ∷ rest.uses; are_of = (rest.uses, refl, rest.are_of); are_uses = (are.0, rest.are_uses) }
-
-  -- ---- all members
-
-  pub named_history : ((uses : ℕ → List StoreUse) → AreAllUses setting uses → HasHistory setting uses) → (named : ℕ → List (NamedUse U)) (are : AreAllNamedUses g finds answers setting names named)
-      → HasNamedHistory g finds answers setting names named are
-  named_history histories named are =
-      let all : (node : ℕ) → HasUsesOf g finds answers setting node names (first_store setting node) (named node) (are node) =
-      λ node. named_uses node (first_store setting node) (named node) (are node) in
-      let uses : ℕ → List StoreUse = λ node. (all node).uses in
-      record { uses = uses; are_of = λ node. (all node).are_of; are_uses = λ node. (all node).are_uses; has = histories uses (λ node. (all node).are_uses) }

@@ -21,7 +21,7 @@ use Rattle.oathd_database.specs.declared.serving.Serving.{Serving}
 use Rattle.oathd_roster.specs.Served.{HasServedNamed}
 use Rattle.oathd_roster.specs.declared.cluster.NamedCluster.{NamedCluster}
 use Rattle.book_law.specs.Lives.{Action, Setting, Store, Terms, store_under}
-use Rattle.book_law.specs.Uses.{AreAllUses, AreUses, HasHistory, IsWriting, Part, ServesInParts, StoreUse, Writes, entries_in, first_store, store_after, written_store}
+use Rattle.book_law.specs.Uses.{AreUses, IsWriting, Part, ServesInParts, StoreUse, Writes, entries_in, first_store, store_after, written_store}
 use Rattle.name_law.specs.Ports.{first_translator}
 use Rattle.served_law.specs.Enrolled.{opening_uses}
 use Rattle.served_law.specs.Processes.{IsUse, StaysClean}
@@ -157,11 +157,3 @@ module _ {S U : Type 0} (g : Ghosts S) (finds : sql.Held S → Type 0) (answers 
   abbrev pub AreAllNamedUses : (ℕ → List (NamedUse U)) → Type 0
   AreAllNamedUses named = (node : ℕ)
       → AreNamedUses g finds answers setting node names (first_store setting node) (named node)
-
-  -- one history has the uses of all members
-  pub record HasNamedHistory (named : ℕ → List (NamedUse U)) (are : AreAllNamedUses named) : Type 0 where
-    pub uses : ℕ → List StoreUse
-    pub are_of : (node : ℕ)
-        → AreOf g finds answers setting node names (first_store setting node) (named node) (are node) (uses node)
-    pub are_uses : AreAllUses setting uses
-    pub has : HasHistory setting uses

@@ -41,10 +41,9 @@ ghost use Rattle.name_law.specs.Unforged.{IsSized};
 ghost use Rattle.order_law.specs.Interleavings.{Item, history_of};
 ghost use Rattle.order_law.specs.Steps.{Replies, Says};
 ghost use Rattle.served_law.specs.Orders.{HasNamedSteps, HasStepsOf, IsOrderOf, IsRunInOrder};
-ghost use Rattle.served_law.specs.Runs.{AreAllNamedUses, AreNamedUses, AreOf, HasNamedHistory, HasUsesOf, IsOneUse, IsSound, NamedUse, terms_in, view_of};
+ghost use Rattle.served_law.specs.Runs.{AreAllNamedUses, AreNamedUses, AreOf, HasUsesOf, IsOneUse, IsSound, NamedUse, terms_in, view_of};
 ghost use Rattle.served_law.specs.Seated.{HasKnownRows, HasRows, IsSeatedStore, served_terms, store_by_names, tokens_of};
 
-use book_law::uses_make_histories;
 use name_law::named_ports_tell_envelopes;
 use named_order_law::{unforged_interleavings_are_safe, unforged_interleavings_keep_devices};
 use oathd_database::{Database, Stop};
@@ -171,22 +170,15 @@ pub fn served_names_open_greatest<S: Alter + Drop, D: Database<S>, U: Stop>()
         → UsesGreatest seed setting store uses }
 {}
 
-/// Histories: all runs by names over the members' stores have one history of `book_law`, with any commands between
-/// them.
+/// Uses: all runs by names over a member's store are uses of `book_law`, with any commands between them.
 ///
-/// Each run finds what the use before it left. It raises rows of the store, and gives it new rows by enrolments. The
-/// promises of `books_are_safe` hold of the history if no vote is forged in it.
-pub fn served_names_make_histories<S: Alter + Drop, D: Database<S>, U: Stop>()
-    ensures uses { (setting : Setting) (node : ℕ) (names : List (List ℕ)) (store : Store) (named : List (NamedUse U))
+/// Each run finds what the use before it left. It raises rows of the store, and gives it new rows by enrolments.
+pub fn served_names_are_uses<S: Alter + Drop, D: Database<S>, U: Stop>()
+    ensures { (setting : Setting) (node : ℕ) (names : List (List ℕ)) (store : Store) (named : List (NamedUse U))
         (are : AreNamedUses S.Store D.finds U.answers setting node names store named)
         → setting.tokens ≡ length names
         → HasUsesOf S.Store D.finds U.answers setting node names store named are }
-    ensures history { (setting : Setting) (names : List (List ℕ)) (named : ℕ → List (NamedUse U))
-        (are : AreAllNamedUses S.Store D.finds U.answers setting names named) → setting.tokens ≡ length names
-        → HasNamedHistory S.Store D.finds U.answers setting names named are }
-{
-    uses_make_histories();
-}
+{}
 
 /// Orders: all runs by names over the members' stores are steps in the order in which they happened.
 ///

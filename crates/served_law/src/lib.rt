@@ -13,8 +13,8 @@ mod worked;
 pub use laws::{
     named_translators_are_first, opened_names_are_enrolled, opened_names_are_seated,
     opened_names_have_rows, served_devices_are_safe, served_names_are_processes,
-    served_names_are_safe, served_names_are_seated, served_names_have_steps,
-    served_names_make_histories, served_names_open_greatest,
+    served_names_are_safe, served_names_are_seated, served_names_are_uses, served_names_have_steps,
+    served_names_open_greatest,
 };
 pub use order_laws::{orders_of_runs_can_be_broken, runs_in_order_can_be_broken};
 pub use run_laws::{

@@ -26,13 +26,13 @@ ghost use Rattle.oathd_roster.specs.declared.cluster.NamedCluster.{NamedCluster}
 ghost use Rattle.book_law.specs.Lives.{Enrols, Setting, Store, Terms};
 ghost use Rattle.book_law.specs.Seeds.{HaveSeedsOnce};
 ghost use Rattle.book_law.specs.Stretches.{Stretch as StretchOf, token_cleared, tokens_cleared};
-ghost use Rattle.book_law.specs.Uses.{AreAllUses, AreUses, HasHistory, StoreUse, WasProcessIn, entries_in, first_store, store_after, written_store};
+ghost use Rattle.book_law.specs.Uses.{AreUses, StoreUse, WasProcessIn, entries_in, store_after, written_store};
 ghost use Rattle.served_law.specs.Devices.{HaveDevices, HaveOneSeed};
 ghost use Rattle.served_law.specs.Enrolled.{opening_uses};
 ghost use Rattle.served_law.specs.Examples.{no_rows, rows_of, three_names, three_tokens};
 ghost use Rattle.served_law.specs.Processes.{AreClean, IsUse, MayEndWith, RunsIn, StaysClean, number_unlocked, stretches_of, with_numbers};
 ghost use Rattle.served_law.specs.RunExamples.{stretch_from, two_commands, two_writes};
-ghost use Rattle.served_law.specs.Runs.{AreAllNamedUses, AreNamedUses, AreOf, AreOfRun, HasNamedHistory, HasUsesOf, HoldsStore, IsRunOver, IsSound, NamedRun, NamedUse, RunsBy, WritesBy, answers_of, entries_of, store_found, store_left, terms_in, view_of};
+ghost use Rattle.served_law.specs.Runs.{AreNamedUses, AreOf, AreOfRun, HasUsesOf, HoldsStore, IsRunOver, IsSound, NamedRun, NamedUse, RunsBy, WritesBy, answers_of, entries_of, store_found, store_left, terms_in, view_of};
 ghost use Rattle.served_law.specs.Seated.{HasKnownRows};
 
 use oathd_database::{Database, Stop};
@@ -193,17 +193,6 @@ pub fn named_uses_can_be_broken<S: Alter + Drop, D: Database<S>, U: Stop>()
         (named : List (NamedUse U)) (are : AreNamedUses S.Store D.finds U.answers setting node names store named)
         (has : HasUsesOf S.Store D.finds U.answers setting node names store named are)
         → AreUses setting node store has.uses }
-    ensures history_is_of { (setting : Setting) (node : ℕ) (names : List (List ℕ)) (named : ℕ → List (NamedUse U))
-        (are : AreAllNamedUses S.Store D.finds U.answers setting names named)
-        (has : HasNamedHistory S.Store D.finds U.answers setting names named are)
-        → AreOf S.Store D.finds U.answers setting node names (first_store setting node) (named node) (are node)
-        (has.uses node) }
-    ensures history_has_uses { (setting : Setting) (names : List (List ℕ)) (named : ℕ → List (NamedUse U))
-        (are : AreAllNamedUses S.Store D.finds U.answers setting names named)
-        (has : HasNamedHistory S.Store D.finds U.answers setting names named are) → AreAllUses setting has.uses }
-    ensures history_is_there { (setting : Setting) (names : List (List ℕ)) (named : ℕ → List (NamedUse U))
-        (are : AreAllNamedUses S.Store D.finds U.answers setting names named)
-        (has : HasNamedHistory S.Store D.finds U.answers setting names named are) → HasHistory setting has.uses }
 {}
 
 /// Counterexamples: each condition of devices fails for a minimal one, or is among those of a run.

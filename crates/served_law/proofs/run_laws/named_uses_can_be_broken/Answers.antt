@@ -63,12 +63,3 @@ returns-clause-uses_are_of g c = λ setting node names store named are has. has.
 
 pub returns-clause-uses_are_uses : goal.returns-clause-uses_are_uses
 returns-clause-uses_are_uses g c = λ setting node names store named are has. has.are_uses
-
-pub returns-clause-history_is_of : goal.returns-clause-history_is_of
-returns-clause-history_is_of g c = λ setting node names named are has. has.are_of node
-
-pub returns-clause-history_has_uses : goal.returns-clause-history_has_uses
-returns-clause-history_has_uses g c = λ setting names named are has. has.are_uses
-
-pub returns-clause-history_is_there : goal.returns-clause-history_is_there
-returns-clause-history_is_there g c = λ setting names named are has. has.has

@@ -1,11 +1,8 @@
 -- Each clause is a lemma.
 use Rattle.book_law.proofs.Recorded.{offers, replies_are_true}
 use Rattle.book_law.proofs.Told.{answer_truly}
-use Rattle.book_law.proofs.Uses.{has_history, stores}
-use Rattle.book_law.proofs.laws.uses_make_histories.Goals as goal
-
-pub returns-clause-history : goal.returns-clause-history
-returns-clause-history c = has_history
+use Rattle.book_law.proofs.Uses.{stores}
+use Rattle.book_law.proofs.laws.histories_keep_uses.Goals as goal
 
 pub returns-clause-stores : goal.returns-clause-stores
 returns-clause-stores c = stores
