@@ -1,10 +1,10 @@
 -- The processes that open stores in an interleaving are those that start in the nodes' steps.
-use Rattle.std.proofs.Common.{◌≡◌, ℕ, zero, suc, ◌⊎◌, ⊎_elim, true, List, [], ◌∷◌, ◌++◌, take, Option, Some, None, refl, sym, ap, ◌∙◌, subst}
+use Rattle.std.proofs.Common.{◌≡◌, ℕ, zero, suc, ⊎_elim, true, List, [], ◌∷◌, ◌++◌, take, Option, Some, None, refl, sym, ap, ◌∙◌, subst}
 use Rattle.std.specs.List.{slice_get}
 use Rattle.std.proofs.lemmas.Option.{none-some, same_Some}
 use Rattle.vote_core.specs.Schedule.{is_member}
 use Rattle.oath_node.specs.Machine.{NodeEvent}
-use Rattle.book_law.specs.Lives.{Action, Down, Enrols, FailsToOpen, Loses as LosesStore, Offers, Opens, OpensGate, Raises, Remakes, Setting, State, Stops, StopsIn, Store, Takes, Terms, Unlocks, first_state, node_of_action, state_after, state_of, store_at}
+use Rattle.book_law.specs.Lives.{Action, Down, Enrols, FailsToOpen, Loses as LosesStore, Offers, Opens, OpensGate, Raises, Remakes, Setting, State, Stops, StopsIn, Store, Takes, Terms, Unlocks, first_state, node_of_action, state_after, store_at}
 use Rattle.book_law.specs.Seeds.{AreGreatest, HaveSeedsOnce, IsOpenedIn, OpensGreatest}
 use Rattle.book_law.specs.Uses.{IsWriting, clearing}
 use Rattle.book_law.proofs.Openings.{IsOpening, NoOpening, both_none, no_opening, place, same_terms}
