@@ -2,8 +2,8 @@
 
    gcc -O2 bench/looks.c -o looks && ./looks FOLDER
 
-   Rounds of 300 commits each take turns between no look, a look at the database and the -wal by their paths, and a look at their
-   folder. For each it prints the median time of a commit of the median round, that of the least and of the greatest one, and the
+   Rounds of 300 commits each take turns between no look, a look at the database and the -wal by their paths, a look at their
+   folder, and one at the folder as it was opened before. For each it prints the median time of a commit of the median round, that of the least and of the greatest one, and the
    mean time of the look itself, in microseconds. FOLDER is on the disk that counts; its files go at the end. */
 #define _GNU_SOURCE
 #include <fcntl.h>
@@ -14,10 +14,10 @@
 #include <time.h>
 #include <unistd.h>
 
-enum { NONE, FILES, FOLDER, LOOKS };
+enum { NONE, FILES, FOLDER, OPENED, LOOKS };
 enum { ROUNDS = 15, COMMITS = 300, PAGES = 190, FRAME = 16480 };
 
-static const char *const NAMES[LOOKS] = {"no look", "database and -wal", "their folder"};
+static const char *const NAMES[LOOKS] = {"no look", "database and -wal", "their folder", "their open folder"};
 
 static double now(void)
 {
@@ -32,10 +32,10 @@ static int compare(const void *one, const void *other)
     return (x > y) - (x < y);
 }
 
-static void look(const char *path)
+static void look(int folder, const char *path)
 {
     struct statx found;
-    if (statx(AT_FDCWD, path, 0, STATX_BASIC_STATS | STATX_BTIME, &found)) {
+    if (statx(folder, path, AT_EMPTY_PATH, STATX_BASIC_STATS | STATX_BTIME, &found)) {
         perror(path);
         exit(1);
     }
@@ -62,7 +62,7 @@ int main(int count, char **words)
     }
     snprintf(database, sizeof database, "%s/looks.db", words[1]);
     snprintf(log, sizeof log, "%s/looks.db-wal", words[1]);
-    int store = opened(database), wal = opened(log);
+    int store = opened(database), wal = opened(log), folder = open(words[1], O_RDONLY | O_DIRECTORY);
     for (int page = 0; page < PAGES; page++)
         if (pwrite(wal, frame, FRAME, (off_t)page * FRAME) != FRAME)
             return 1;
@@ -79,10 +79,12 @@ int main(int count, char **words)
                     return 1;
                 double synced = now();
                 if (kind == FILES) {
-                    look(database);
-                    look(log);
+                    look(AT_FDCWD, database);
+                    look(AT_FDCWD, log);
                 } else if (kind == FOLDER) {
-                    look(words[1]);
+                    look(AT_FDCWD, words[1]);
+                } else if (kind == OPENED) {
+                    look(folder, "");
                 }
                 double end = now();
                 times[commit] = end - begin;
