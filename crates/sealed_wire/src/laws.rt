@@ -125,4 +125,5 @@ pub fn heads_are_worked()
     ensures kind_5 { head_at (slice_set line_head_bytes 3 5) ≡ None }
     ensures request { head_at (slice_set line_head_bytes 3 3) ≡ Some (record line_head { kind = Request }) }
     ensures report { head_at (slice_set line_head_bytes 3 4) ≡ Some (record line_head { kind = Report }) }
+    ensures node { head_at (slice_set line_head_bytes 6 3) ≡ Some (record line_head { node = 3 }) }
 {}

@@ -46,3 +46,7 @@ returns-clause-request c = refl
 pub returns-clause-report : goal.returns-clause-report
 unfolding head_at
 returns-clause-report c = refl
+
+pub returns-clause-node : goal.returns-clause-node
+unfolding head_at
+returns-clause-node c = refl
