@@ -104,7 +104,7 @@ static void send_line(struct place *place, struct pollfd *fds, double moment)
 #ifdef SEALED
     static uint64_t last;
     static uint8_t datagram[512];
-    if (sealing.is_sealed) {
+    if (sealing.way == WAKDULG_SEALED) {
         struct timespec time;
         clock_gettime(CLOCK_REALTIME, &time);
         uint64_t micros = (uint64_t)time.tv_sec * 1000000 + (uint64_t)time.tv_nsec / 1000;
@@ -138,7 +138,7 @@ static struct place *take_answer(struct place *place, size_t places, size_t clie
     ssize_t got = recv(fds[client].fd, answer, sizeof answer - 1, 0);
     if (got < 0) fail("serve-client: recv");
 #ifdef SEALED
-    if (sealing.is_sealed && got >= 47) memmove(answer, answer + 15, (size_t)(got -= 47));
+    if (sealing.way == WAKDULG_SEALED && got >= 47) memmove(answer, answer + 15, (size_t)(got -= 47));
 #endif
     answer[got] = 0;
     for (size_t k = 0; k < places; k++) {

@@ -213,7 +213,7 @@ class Client:
             found = re.findall(r"^member \d (\S+)", (self.folder / "cluster").read_text(), re.M)
             if found and ",".join(found) != self.members:
                 self.members = ",".join(found)
-                self.cluster = wakdulg.Cluster(self.members, key=self.key)
+                self.cluster = wakdulg.Cluster(self.members, key=self.key or wakdulg.PLAIN_LINES)
         if self.has_changed("users"):
             rows = [row.split() for row in (self.folder / "users").read_text().splitlines()]
             raised = {fields[1]: int(fields[4]) for fields in rows if len(fields) > 4}

@@ -4,20 +4,23 @@
 tools/clients calls it. It takes some seconds, also on a busy machine: a test that waits for an answer waits long, and
 only those in which nobody answers have short pauses.
 """
+import hashlib
 import os
 import socket
+import stat
 import sys
 import tempfile
 import threading
 import time
 import unittest
 from concurrent.futures import ThreadPoolExecutor
+from unittest import mock
 
 sys.dont_write_bytecode = True
 import wakdulg
 from fake_node import NO_ANSWERS, FakeNode
 
-PATIENT = {"pauses": (0.2, 30.0), "total": 60.0, "avoid": 300.0}
+PATIENT = {"pauses": (0.2, 30.0), "total": 60.0, "avoid": 300.0, "key": wakdulg.PLAIN_LINES}
 KEY, OTHER = wakdulg.Key(7, bytes(range(32))), wakdulg.Key(8, bytes(range(1, 33)))
 SHORT = (0.3, 1.5)
 
@@ -31,7 +34,7 @@ class Tests(unittest.TestCase):
 
     def made(self, nodes, settings):
         made = wakdulg.Cluster(nodes, **settings)
-        made.order = lambda user: sorted(made.nodes, key=lambda node: node in made._silent_until)
+        made.order = lambda user: sorted(made.nodes, key=lambda node: node in made.silent.nodes())
         return made
 
     def refusal(self, cluster, kind=wakdulg.Refused, user="ann", code="123456", password=None):
@@ -134,7 +137,7 @@ class Tests(unittest.TestCase):
         self.assertEqual(str(self.refusal(cluster, wakdulg.Undecided)), "SILENT (in doubt)")
         self.assertTrue(0.9 <= time.monotonic() - begin < 20)
         # The second had less than its time, and the third was not asked: neither is asked last for it.
-        self.assertEqual((list(cluster._silent_until), nodes[2].heard), ([nodes[0].address], []))
+        self.assertEqual((cluster.silent.nodes(), nodes[2].heard), ({nodes[0].address}, []))
 
     def test_garbage_does_not_hold_a_call_beyond_its_time(self):
         def flood(sender, _):
@@ -166,12 +169,12 @@ class Tests(unittest.TestCase):
         self.assertEqual(factors, list(range(256)))
 
     def test_nodes_and_order(self):
-        cluster = wakdulg.Cluster("127.0.0.1:1, 10.0.0.2:65535 127.0.0.1:3")
+        cluster = wakdulg.Cluster("127.0.0.1:1, 10.0.0.2:65535 127.0.0.1:3", key=wakdulg.PLAIN_LINES)
         self.assertEqual(cluster.nodes, [("127.0.0.1", 1), ("10.0.0.2", 65535), ("127.0.0.1", 3)])
         for text in ("", "127.0.0.1", "localhost:1", "127.0.0.1:0", "127.0.0.1:65536", "[::1]:1", "127.0.0.1:x",
                      "127.1:5"):
             with self.assertRaises(ValueError, msg=text):
-                wakdulg.Cluster(text)
+                wakdulg.Cluster(text, key=wakdulg.PLAIN_LINES)
         self.assertEqual({cluster.order("u%d" % k)[0] for k in range(20)}, set(cluster.nodes))
         self.assertEqual(cluster.order("ann"), cluster.order("ann"))
 
@@ -261,7 +264,7 @@ class Tests(unittest.TestCase):
             with open(path, "w") as file:
                 file.write("00" * 32 + "\n")
             self.assertEqual(wakdulg.key_of("7:" + path, False).client, 7)
-            self.assertIsNone(wakdulg.key_of(None, True))
+            self.assertIs(wakdulg.key_of(None, True), wakdulg.PLAIN_LINES)
             for words in ("7:" + path, True), (None, False), ("", False):
                 with self.assertRaises(ValueError, msg=words):
                     wakdulg.key_of(*words)
@@ -270,6 +273,54 @@ class Tests(unittest.TestCase):
                 wakdulg.Cluster(nodes, key=KEY)
         cluster = wakdulg.Cluster("3=127.0.0.1:1 1=127.0.0.1:2", key=KEY)
         self.assertEqual([cluster._numbers[node] for node in cluster.nodes], [3, 1])
+
+    def test_without_a_key_no_line_is_sent(self):
+        node = FakeNode(["OK {} 1"])
+        self.addCleanup(node.stop)
+        for words in {}, {"key": None}, {"key": ""}, {"key": False}:
+            with self.assertRaisesRegex(ValueError, "no key: "):
+                wakdulg.Cluster("%s:%d" % node.address, **words)
+        self.assertEqual(node.heard, [])
+
+    def test_a_key_file_of_another_user_is_none(self):
+        with tempfile.TemporaryDirectory() as folder:
+            path = os.path.join(folder, "key")
+            with open(path, "w") as file:
+                os.chmod(path, 0o600)
+                file.write("00" * 32 + "\n")
+            about = os.stat(path)
+            for owner, is_good in (about.st_uid, True), (0, True), (65534, False), (about.st_uid + 1, False):
+                # Root alone may give a file away, so that the system tells of another owner here.
+                told = os.stat_result([owner if place == stat.ST_UID else each for place, each in enumerate(about)])
+                with mock.patch("os.fstat", return_value=told):
+                    if is_good:
+                        self.assertEqual(wakdulg.read_key("7:" + path).client, 7)
+                    else:
+                        with self.assertRaisesRegex(ValueError, "neither this user's nor root's"):
+                            wakdulg.read_key("7:" + path)
+
+    def test_silent_nodes_are_kept_for_other_processes(self):
+        silent, good = FakeNode([]), FakeNode(["OK {} 1"], ["OK {} 2"], ["OK {} 3"])
+        for node in silent, good:
+            self.addCleanup(node.stop)
+        nodes = ",".join("%s:%d" % node.address for node in (silent, good))
+        # A user whose own node is the silent one.
+        user = next(name for name in map(str, range(99)) if hashlib.sha256(name.encode()).digest()[0] % 2 == 0)
+        with tempfile.TemporaryDirectory() as folder:
+            path = os.path.join(folder, "silent")
+            each = lambda **more: wakdulg.Cluster(nodes, **{**PATIENT, "pauses": SHORT, "memory": path, **more})
+            self.assertEqual(each().check(user, "123456").factor, 1)
+            heard = len(silent.heard)
+            self.assertEqual(each().check(user, "123456").factor, 2)
+            self.assertEqual((len(silent.heard), each().order(user)[-1]), (heard, silent.address))
+            # Whoever answers again is forgotten, and so is what no process can have written.
+            each().silent.note(silent.address, False)
+            self.assertEqual(each().order(user)[0], silent.address)
+            for text in "", "[", "[1]", '[["127.0.0.1", 1]]', '{"a": 1}', '[["127.0.0.1", %d, 1e300]]' % silent.address[1], "\x00" * 9:
+                with open(path, "w") as file:
+                    file.write(text)
+                self.assertEqual(each().silent.nodes(), set(), text)
+            self.assertEqual(each(memory="/none/silent", pauses=(0.1,)).check(user, "123456").factor, 3)
 
     def test_moments_do_not_come_again(self):
         with ThreadPoolExecutor(16) as threads:

@@ -7,11 +7,13 @@ has none to load, as clang, the other one is taken alone.
 """
 import ctypes
 import os
+import socket
 import subprocess
 import sys
 import tempfile
 import threading
 import unittest
+from types import SimpleNamespace
 
 sys.dont_write_bytecode = True
 import test_wakdulg
@@ -23,14 +25,12 @@ CC = os.environ.get("CC", "cc")
 KINDS = [None, wakdulg.Refused, wakdulg.Throttled, wakdulg.Undecided, wakdulg.BadField]
 
 
-
-
 class ClusterFields(ctypes.Structure):
     """`struct wakdulg_cluster`. The address has the alignment of a number of 4 bytes."""
-    _fields_ = [("nodes", ctypes.c_uint32 * 45), ("count", ctypes.c_size_t), ("is_sealed", ctypes.c_bool),
+    _fields_ = [("nodes", ctypes.c_uint32 * 45), ("count", ctypes.c_size_t), ("way", ctypes.c_int),
                 ("client", ctypes.c_uint16), ("key", ctypes.c_uint8 * 64), ("key_len", ctypes.c_size_t),
                 ("again", ctypes.c_double), ("leave", ctypes.c_double), ("total", ctypes.c_double),
-                ("in_order", ctypes.c_bool)]
+                ("avoid", ctypes.c_double), ("in_order", ctypes.c_bool), ("silent_until", ctypes.c_int64 * 9)]
 
 
 class Answer(ctypes.Structure):
@@ -79,8 +79,10 @@ class Cluster:
         if library.wakdulg_set_nodes(ctypes.byref(self.fields), nodes.encode()) < 0:
             raise ValueError(nodes)
         self.fields.again, self.fields.leave = pauses
-        self.fields.total, self.fields.in_order = total, True
-        if key:
+        self.fields.total, self.fields.avoid, self.fields.in_order = total, avoid, True
+        if key is wakdulg.PLAIN_LINES:
+            library.wakdulg_set_plain(ctypes.byref(self.fields))
+        elif key:
             with tempfile.NamedTemporaryFile("w") as file:
                 file.write(key._key.hex() + "\n")
                 file.flush()
@@ -89,6 +91,20 @@ class Cluster:
     def set_key(self, word):
         if self.library.wakdulg_set_key(ctypes.byref(self.fields), word.encode()) < 0:
             raise ValueError(word)
+
+    def nodes(self):
+        """The addresses of the nodes, in their order."""
+        each = [bytes(self.fields.nodes)[20 * k:20 * k + 20] for k in range(self.fields.count)]
+        return [(socket.inet_ntoa(node[8:12]), int.from_bytes(node[6:8], "big")) for node in each]
+
+    @property
+    def silent(self):
+        """What stands for the memory of the Python library."""
+        found = {node for node, until in zip(self.nodes(), self.fields.silent_until) if until}
+        return SimpleNamespace(nodes=lambda: found)
+
+    def order(self, _user):
+        return sorted(self.nodes(), key=lambda node: node in self.silent.nodes())
 
     def submitted(self, call, *words):
         try:
@@ -138,17 +154,6 @@ class Tests(test_wakdulg.Tests):
         answer = self.sealed(key, 2, 2, 1000000, line[-32:], b"OK k1 0")
         self.assertEqual(answer, key.seal(b"OK k1 0", 2, 2, 1000000, line[-32:]))
 
-    def test_a_silent_node_is_left_and_asked_last_from_then_on(self):
-        silent, good = FakeNode([]), FakeNode(["NO {} INVALID"])
-        self.assertEqual(str(self.refusal(self.cluster(silent, good, pauses=(0.3, 1.5)))), "INVALID (in doubt)")
-        self.assertEqual(set(silent.heard), set(good.heard))
-
-    def test_silence_of_all_ends_in_time(self):
-        nodes = [FakeNode([]) for _ in range(3)]
-        cluster = self.cluster(*nodes, pauses=(0.3, 0.6), total=0.9)
-        self.assertEqual(str(self.refusal(cluster, wakdulg.Undecided)), "SILENT (in doubt)")
-        self.assertEqual(nodes[2].heard, [])
-
     def test_a_line_is_sealed_for_each_node_and_for_each_sending(self):
         silent, good = FakeNode([], [], key=test_wakdulg.KEY), FakeNode([], ["OK {} 3"], key=test_wakdulg.KEY, number=2)
         cluster = self.cluster(silent, good, pauses=test_wakdulg.SHORT, key=test_wakdulg.KEY)
@@ -196,10 +201,9 @@ class Tests(test_wakdulg.Tests):
                 Cluster(self.library, nodes, key=test_wakdulg.KEY)
 
     def test_nodes_and_order(self):
-        made = Cluster(self.library, "127.0.0.1:1, 10.0.0.2:65535 3=127.0.0.1:3").fields
-        nodes = [bytes(made.nodes)[20 * k:20 * k + 20] for k in range(made.count)]
-        self.assertEqual([(node[0], int.from_bytes(node[6:8], "big"), tuple(node[8:12])) for node in nodes],
-                         [(1, 1, (127, 0, 0, 1)), (2, 65535, (10, 0, 0, 2)), (3, 3, (127, 0, 0, 1))])
+        made = Cluster(self.library, "127.0.0.1:1, 10.0.0.2:65535 3=127.0.0.1:3")
+        self.assertEqual([bytes(made.fields.nodes)[20 * k] for k in range(made.fields.count)], [1, 2, 3])
+        self.assertEqual(made.nodes(), [("127.0.0.1", 1), ("10.0.0.2", 65535), ("127.0.0.1", 3)])
         for text in ("", "127.0.0.1", "localhost:1", "127.0.0.1:0", "127.0.0.1:65536", "[::1]:1", "127.0.0.1:x",
                      "127.1:5", "0=127.0.0.1:1", ",".join(["127.0.0.1:1"] * 10)):
             with self.assertRaises(ValueError, msg=text):
@@ -215,8 +219,33 @@ class Tests(test_wakdulg.Tests):
             thread.join()
         self.assertEqual(len({data[7:15] for data in node.datagrams}), len(node.datagrams))
 
-    # It is about what the Python library alone has.
-    test_a_name_forges_no_line_of_a_log = None
+    def test_without_a_key_no_line_is_sent(self):
+        node = FakeNode(["OK {} 1"])
+        self.addCleanup(node.stop)
+        made = Cluster(self.library, "%s:%d" % node.address)
+        self.assertEqual(str(self.refusal(made, wakdulg.Undecided)), "NO KEY")
+        with self.assertRaises(ValueError):
+            made.set_key("7:/none")
+        self.assertEqual(str(self.refusal(made, wakdulg.Undecided)), "NO KEY")
+        # A key that can't be set takes the former one away.
+        made = Cluster(self.library, "%s:%d" % node.address, key=test_wakdulg.KEY)
+        with self.assertRaises(ValueError):
+            made.set_key("7:/none")
+        self.assertEqual((str(self.refusal(made, wakdulg.Undecided)), node.heard), ("NO KEY", []))
+
+    @unittest.skipUnless(os.geteuid() == 0, "root alone gives a file to another user")
+    def test_a_key_file_of_another_user_is_none(self):
+        with tempfile.NamedTemporaryFile("w") as file:
+            file.write("00" * 32 + "\n")
+            file.flush()
+            os.chown(file.name, 65534, -1)
+            with self.assertRaises(ValueError):
+                Cluster(self.library, "127.0.0.1:1").set_key("7:" + file.name)
+            os.chown(file.name, 0, -1)
+            Cluster(self.library, "127.0.0.1:1").set_key("7:" + file.name)
+
+    # They are about what the Python library alone has.
+    test_a_name_forges_no_line_of_a_log = test_silent_nodes_are_kept_for_other_processes = None
 
 
 if __name__ == "__main__":

@@ -91,7 +91,7 @@ static int read_node(const char *text, size_t len, uint8_t number, struct wakdul
 }
 
 int wakdulg_set_nodes(struct wakdulg_cluster *cluster, const char *nodes) {
-    *cluster = (struct wakdulg_cluster){.again = 1.0, .leave = 2.5, .total = 8.0};
+    *cluster = (struct wakdulg_cluster){.again = 1.0, .leave = 2.5, .total = 8.0, .avoid = 30.0};
     for (const char *at = nodes; *(at += strspn(at, ", "));) {
         size_t len = strcspn(at, ", ");
         if (cluster->count == WAKDULG_MAX_NODES ||
@@ -114,21 +114,21 @@ static bool has_a_node_twice(const struct wakdulg_cluster *cluster) {
     return false;
 }
 
-int wakdulg_set_key(struct wakdulg_cluster *cluster, const char *number_and_file) {
-    size_t digits = strspn(number_and_file, "0123456789");
-    unsigned long number = strtoul(number_and_file, NULL, 10);
-    if (digits < 1 || digits > 5 || number > 65535 || number_and_file[digits] != ':' || has_a_node_twice(cluster))
-        return -1;
-    FILE *file = fopen(number_and_file + digits + 1, "re");
+void wakdulg_set_plain(struct wakdulg_cluster *cluster) { cluster->way = WAKDULG_PLAIN; }
+
+/* Whether a key in this open file is a secret of this user: others can neither read it nor have put it there. */
+static bool is_private(int fd) {
+    struct stat about;
+    return fstat(fd, &about) == 0 && !(about.st_mode & 037) && (about.st_uid == 0 || about.st_uid == geteuid());
+}
+
+/* Reads the key of a file into the cluster. */
+static int read_key(struct wakdulg_cluster *cluster, const char *path) {
+    FILE *file = fopen(path, "re");
     if (!file)
         return -1;
-    struct stat about;
-    if (fstat(fileno(file), &about) < 0 || about.st_mode & 037) {
-        fclose(file);
-        return -1;
-    }
     char text[2 * WAKDULG_MAX_KEY + 3];
-    size_t len = fread(text, 1, sizeof text - 1, file);
+    size_t len = is_private(fileno(file)) ? fread(text, 1, sizeof text - 1, file) : 0;
     fclose(file);
     text[len] = 0;
     if (len && text[len - 1] == '\n')
@@ -140,11 +140,19 @@ int wakdulg_set_key(struct wakdulg_cluster *cluster, const char *number_and_file
         cluster->key[k] = (uint8_t)strtoul(pair, NULL, 16);
     }
     OPENSSL_cleanse(text, sizeof text);
-    if (!is_key)
+    cluster->key_len = is_key ? len / 2 : 0;
+    return is_key ? 0 : -1;
+}
+
+int wakdulg_set_key(struct wakdulg_cluster *cluster, const char *number_and_file) {
+    size_t digits = strspn(number_and_file, "0123456789");
+    unsigned long number = strtoul(number_and_file, NULL, 10);
+    cluster->way = WAKDULG_UNSAID;
+    if (digits < 1 || digits > 5 || number > 65535 || number_and_file[digits] != ':' || has_a_node_twice(cluster) ||
+        read_key(cluster, number_and_file + digits + 1) < 0)
         return -1;
-    cluster->key_len = len / 2;
     cluster->client = (uint16_t)number;
-    cluster->is_sealed = true;
+    cluster->way = WAKDULG_SEALED;
     return 0;
 }
 
@@ -218,7 +226,7 @@ static int send_line(int fd, struct asked *asked) {
     const uint8_t *line = (const uint8_t *)asked->line;
     size_t len = strlen(asked->line);
     uint8_t datagram[MAX_SEALED];
-    if (asked->cluster->is_sealed) {
+    if (asked->cluster->way == WAKDULG_SEALED) {
         uint64_t moment = asked->moments[asked->sent] = new_moment();
         size_t sealed_len = wakdulg_seal(asked->cluster, KIND_LINE, asked->node->number, moment, NULL, line, len, datagram);
         memcpy(asked->tags[asked->sent], datagram + sealed_len - TAG_LEN, TAG_LEN);
@@ -246,7 +254,7 @@ static int wait_for(int fd, const struct asked *asked, double end, char *text) {
             continue;
         if (len < 0)
             return -1;
-        if (asked->cluster->is_sealed)
+        if (asked->cluster->way == WAKDULG_SEALED)
             len = open_answer(asked, data, (size_t)len, text);
         else if ((size_t)len < ROOM)
             memcpy(text, data, (size_t)len);
@@ -316,16 +324,42 @@ static size_t first_of(const struct wakdulg_cluster *cluster, const char *user) 
     return digest[0] % cluster->count;
 }
 
-static struct wakdulg_answer submit(const struct wakdulg_cluster *cluster, const char *user, const char *nonce,
+static int64_t now_in_millis(void) { return (int64_t)(now_of(CLOCK_MONOTONIC) * 1000); }
+
+/* Writes the places of the nodes as they are asked: from the first one on, and those that were silent last. */
+static void order_of(const struct wakdulg_cluster *cluster, const char *user, size_t *order) {
+    size_t first = first_of(cluster, user), count = 0;
+    int64_t now = now_in_millis();
+    bool is_silent[WAKDULG_MAX_NODES];
+    for (size_t k = 0; k < cluster->count; k++)
+        is_silent[k] = __atomic_load_n(&cluster->silent_until[k], __ATOMIC_RELAXED) > now;
+    for (int pass = 0; pass < 2; pass++)
+        for (size_t k = 0; k < cluster->count; k++)
+            if (is_silent[(first + k) % cluster->count] == (pass == 1))
+                order[count++] = (first + k) % cluster->count;
+}
+
+/* Keeps in mind whether a node was silent for all of its time. */
+static void note(struct wakdulg_cluster *cluster, size_t place, bool is_heard, double deadline) {
+    if (is_heard)
+        __atomic_store_n(&cluster->silent_until[place], 0, __ATOMIC_RELAXED);
+    else if (now_of(CLOCK_MONOTONIC) < deadline) {
+        int64_t until = now_in_millis() + (int64_t)(cluster->avoid * 1000);
+        __atomic_store_n(&cluster->silent_until[place], until, __ATOMIC_RELAXED);
+    }
+}
+
+static struct wakdulg_answer submit(struct wakdulg_cluster *cluster, const char *user, const char *nonce,
                                     const char *line) {
     struct wakdulg_answer answer = {.outcome = WAKDULG_UNDECIDED, .reason = "SILENT"};
     double deadline = now_of(CLOCK_MONOTONIC) + cluster->total;
-    size_t first = first_of(cluster, user);
+    size_t order[WAKDULG_MAX_NODES];
+    order_of(cluster, user, order);
     for (size_t k = 0; k < cluster->count && now_of(CLOCK_MONOTONIC) < deadline; k++) {
-        struct asked asked = {.cluster = cluster, .line = line, .nonce = nonce};
-        asked.node = &cluster->nodes[(first + k) % cluster->count];
+        struct asked asked = {.cluster = cluster, .node = &cluster->nodes[order[k]], .line = line, .nonce = nonce};
         char text[ROOM + 1];
         enum heard heard = ask_node(&asked, deadline, text);
+        note(cluster, order[k], heard == HEARD, deadline);
         if (heard == HEARD && take_answer(&answer, text))
             break;
         answer.in_doubt = answer.in_doubt || heard == NOT_HEARD;
@@ -352,9 +386,13 @@ static int make_nonce(char *nonce) {
     return 0;
 }
 
-static struct wakdulg_answer submit_codes(const struct wakdulg_cluster *cluster, const char *user, const char *code,
+static struct wakdulg_answer submit_codes(struct wakdulg_cluster *cluster, const char *user, const char *code,
                                           const char *next_code, const char *password) {
     struct wakdulg_answer bad = {.outcome = WAKDULG_BAD_FIELD};
+    if (cluster->way == WAKDULG_UNSAID || cluster->count == 0) {
+        set_answer(&bad, WAKDULG_UNDECIDED, cluster->count ? "NO KEY" : "NO NODES", 0);
+        return bad;
+    }
     const char *what = !is_word(user) ? "not a user name"
                        : !is_code(code) || (next_code && !is_code(next_code)) ? "not a code"
                        : password && (!is_word(password) || strcmp(password, "-") == 0) ? "not a password" : NULL;
@@ -370,12 +408,12 @@ static struct wakdulg_answer submit_codes(const struct wakdulg_cluster *cluster,
     return answer;
 }
 
-struct wakdulg_answer wakdulg_check(const struct wakdulg_cluster *cluster, const char *user, const char *code,
+struct wakdulg_answer wakdulg_check(struct wakdulg_cluster *cluster, const char *user, const char *code,
                                     const char *password) {
     return submit_codes(cluster, user, code, NULL, password);
 }
 
-struct wakdulg_answer wakdulg_resync(const struct wakdulg_cluster *cluster, const char *user, const char *code,
+struct wakdulg_answer wakdulg_resync(struct wakdulg_cluster *cluster, const char *user, const char *code,
                                      const char *next_code, const char *password) {
     return submit_codes(cluster, user, code, next_code, password);
 }
@@ -423,14 +461,16 @@ int main(int count, char **words) {
         return refuse("no ADDRESS:PORT");
     if (wakdulg_set_nodes(&cluster, nodes) < 0)
         return refuse("not 1 to 9 times ADDRESS:PORT, as 192.0.2.1:717");
+    wakdulg_set_plain(&cluster);
     if (key && *key && wakdulg_set_key(&cluster, key) < 0)
-        return refuse("no key: not NUMBER:FILE, no such file, others may read it, or a node stands twice");
+        return refuse("no key: not NUMBER:FILE, no such file, neither yours nor root's, others may read it, "
+                      "or a node stands twice");
     if (strcmp(words[1], "-") == 0) {
         if (fgets(line, sizeof line, stdin))
             line[strcspn(line, "\n")] = 0;
     } else
         snprintf(line, sizeof line, "%s", words[1]);
-    if (complete(line, nonce) < 0 || strlen(line) > (cluster.is_sealed ? WAKDULG_MAX_LINE : ROOM))
+    if (complete(line, nonce) < 0 || strlen(line) > (cluster.way == WAKDULG_SEALED ? WAKDULG_MAX_LINE : ROOM))
         return refuse("no line of a client");
     for (size_t k = 0; k < cluster.count; k++) {
         struct asked asked = {.cluster = &cluster, .node = &cluster.nodes[k], .line = line, .nonce = nonce};
@@ -442,7 +482,7 @@ int main(int count, char **words) {
     }
     if (!*last) {
         fprintf(stderr, "ask: no node answers%s\n",
-                cluster.is_sealed ? ": look at the key, at its number, and at this machine's clock" : "");
+                cluster.way == WAKDULG_SEALED ? ": look at the key, at its number, and at this machine's clock" : "");
         return 2;
     }
     puts(last);

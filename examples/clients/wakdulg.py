@@ -12,7 +12,8 @@ asked; so it is after TIMEOUT, BUSY and CLOCK, which are about the node. Every o
 of its own, and may be made by any number of threads at once. docs/reference/clients.md says why.
 
 With a key the line is sealed for each node, anew each time that it is sent, and only an answer that is sealed for that
-very datagram counts. Without a key whoever takes a node's port, or sees the traffic, can let in whom he likes.
+very datagram counts. With PLAIN_LINES in its place whoever takes a node's port, or sees the traffic, can let in whom he
+likes.
 """
 import hashlib
 import hmac
@@ -136,11 +137,24 @@ class Key:
         return body[self.HEAD.size:] if hmac.compare_digest(tag, self._tag(body, bound)) else None
 
 
+class PlainLines:
+    """What stands in the place of a key for lines that are asked plainly."""
+
+    def __repr__(self):
+        return "PLAIN_LINES"
+
+
+PLAIN_LINES = PlainLines()
+
+
 def read_private(path):
-    """Returns the text of a small file that its owner alone writes, and its owner and its group read. Any other mode is
-    refused, since others may have the secret then."""
+    """Returns the text of a small file of this user or of root, which its owner alone writes, and its owner and its group
+    read. Any other one is refused, since others may have the secret, or have put theirs there."""
     with open(path, encoding="ascii", errors="replace") as file:
-        if os.fstat(file.fileno()).st_mode & 0o037:
+        about = os.fstat(file.fileno())
+        if about.st_uid not in (0, os.geteuid()):
+            raise ValueError("it is neither this user's nor root's: chown %d %s" % (os.geteuid(), path))
+        if about.st_mode & 0o037:
             raise ValueError("others may read or write it: chmod 600 " + path)
         return file.read(1024)
 
@@ -157,10 +171,10 @@ def read_key(word):
 
 
 def key_of(word, is_plain):
-    """Returns the key of a front end's words: that of `NUMBER:FILE`, or None where it is to ask plainly."""
+    """Returns the key of a front end's words: that of `NUMBER:FILE`, or PLAIN_LINES where it is to ask plainly."""
     if bool(word) == is_plain:
         raise ValueError("a front end has a key file, or the word for plain lines, and not both")
-    return None if is_plain else read_key(word)
+    return PLAIN_LINES if is_plain else read_key(word)
 
 
 class Plain:
@@ -250,11 +264,54 @@ def _field(text, form, what):
     return data
 
 
+class Silent:
+    """The nodes that said nothing, and until when they are asked last, in seconds since this machine's start. In a file
+    they are kept for other processes too. What can't be read or written is forgotten: it decides about the order alone."""
+
+    def __init__(self, seconds, path=None):
+        self.seconds, self.path, self._until = seconds, path, {}
+
+    def nodes(self):
+        """Returns the nodes that are asked last now."""
+        now = time.monotonic()
+        self._until.update(self._kept())
+        return {node for node, until in self._until.items() if now < until <= now + self.seconds}
+
+    def note(self, node, is_silent):
+        if not is_silent and node not in self.nodes():
+            return
+        self._until[node] = time.monotonic() + self.seconds if is_silent else 0
+        if self.path:
+            self._keep()
+
+    def _kept(self):
+        if not self.path:
+            return {}
+        try:
+            with open(self.path, encoding="ascii") as file:
+                return {(host, port): float(until) for host, port, until in json.loads(file.read(4096))}
+        except (OSError, ValueError, TypeError):
+            return {}
+
+    def _keep(self):
+        new = "%s.%d" % (self.path, os.getpid())
+        try:
+            with open(new, "w", encoding="ascii") as file:
+                json.dump([[*node, until] for node, until in self._until.items()], file)
+            os.replace(new, self.path)
+        except OSError:
+            pass
+
+
 class Cluster:
     """Nodes as `ADDRESS:PORT,ADDRESS:PORT`. With a key they stand in the order of their numbers, from 1 on, or each has
-    its number before it: `2=ADDRESS:PORT`. A call has `total` seconds; a silent node is asked last for `avoid`."""
+    its number before it: `2=ADDRESS:PORT`. PLAIN_LINES in the place of the key asks plainly. A call has `total` seconds;
+    a silent node is asked last for `avoid`, by each process that keeps it in the same file `memory`."""
 
-    def __init__(self, nodes, pauses=PAUSES, total=8.0, avoid=30.0, key=None):
+    def __init__(self, nodes, pauses=PAUSES, total=8.0, avoid=30.0, key=None, memory=None):
+        if key is not PLAIN_LINES and not isinstance(key, Key):
+            raise ValueError("no key: key=read_key(\"NUMBER:FILE\"), or key=PLAIN_LINES for lines that anybody may forge")
+        key = None if key is PLAIN_LINES else key
         numbered = [read_numbered(word, number) for number, word in enumerate(nodes.replace(",", " ").split(), 1)]
         self.nodes = [node for _, node in numbered]
         if not self.nodes:
@@ -262,8 +319,7 @@ class Cluster:
         self._numbers = {node: number for number, node in numbered}
         if key and not len({*self.nodes}) == len({*self._numbers.values()}) == len(self.nodes):
             raise ValueError("a node twice")
-        self.pauses, self.total, self.avoid, self.key = pauses, total, avoid, key
-        self._silent_until = {}
+        self.pauses, self.total, self.key, self.silent = pauses, total, key, Silent(avoid, memory)
 
     def check(self, user, code, password=None):
         """Accepted, or raises Refused."""
@@ -283,8 +339,8 @@ class Cluster:
 
     def order(self, user):
         """The nodes as they are asked: the user's own first, for that one knows the token's drift; silent ones last."""
-        first, now = hashlib.sha256(user.encode()).digest()[0] % len(self.nodes), time.monotonic()
-        return sorted(self.nodes[first:] + self.nodes[:first], key=lambda node: self._silent_until.get(node, 0) > now)
+        first, silent = hashlib.sha256(user.encode()).digest()[0] % len(self.nodes), self.silent.nodes()
+        return sorted(self.nodes[first:] + self.nodes[:first], key=lambda node: node in silent)
 
     def _submit(self, word, user, codes, password):
         fields = [_field(user, rb"[^ \t\r\n]{1,64}", "not a user name")]
@@ -316,8 +372,6 @@ class Cluster:
             data = hear(node, self._asked(node, line), self.pauses, deadline)
         except OSError as fault:
             raise Undecided("no socket: %s" % fault, True) from fault
-        if data:
-            self._silent_until.pop(node, None)
-        elif time.monotonic() < deadline:
-            self._silent_until[node] = time.monotonic() + self.avoid
+        if data or time.monotonic() < deadline:
+            self.silent.note(node, not data)
         return data

@@ -7,10 +7,9 @@ import lists
 import phone
 import wakdulg
 from book import User, duplicates, row_in, with_row, with_rows
-from tokens import Fault, Token
+from tokens import NEW_BYTES, Fault, Token
 from users_file import UsersFile
 
-SECRET_BYTES = 32
 KINDS = {"totp": "An app that shows a new code every 30 seconds", "hotp": "A device that counts presses of a button"}
 
 
@@ -57,7 +56,7 @@ def new_token(name, kind, **more):
     """Returns a new token with random bytes of the system."""
     if kind not in KINDS:
         raise Fault("the form", "BadType", "choose one of both kinds")
-    token = Token("the form", secrets.token_bytes(SECRET_BYTES), kind, user=name, **more)
+    token = Token("the form", secrets.token_bytes(NEW_BYTES), kind, user=name, **more)
     token.check()
     return token
 

@@ -18,6 +18,7 @@ HERE = Path(__file__).resolve().parent
 TOP = HERE.parent.parent
 sys.path.insert(0, str(HERE))
 import aes
+import names
 import phone
 from tokens import Fault, Token, read_rows, read_secret
 
@@ -28,6 +29,8 @@ KEY_OF_FIGURE_6 = "12345678901234567890123456789012"
 
 
 class Case(unittest.TestCase):
+    takes_short = True
+
     def setUp(self):
         folder = tempfile.TemporaryDirectory()
         self.addCleanup(folder.cleanup)
@@ -44,8 +47,9 @@ class Case(unittest.TestCase):
         return path
 
     def run_it(self, command, *words, users=None):
-        """What onboard prints, what it says on standard error, and its status."""
-        done = subprocess.run([HERE / "onboard", command, users or self.users, *words], capture_output=True, text=True)
+        """What onboard prints, what it says on standard error, and its status. Most secrets here are short."""
+        short = ["--short-secrets"] if command in ("csv", "pskc") and self.takes_short else []
+        done = subprocess.run([HERE / "onboard", command, users or self.users, *short, *words], capture_output=True, text=True)
         self.assertNotIn("Traceback", done.stderr)
         return done.stdout, done.stderr, done.returncode
 
@@ -202,11 +206,32 @@ class Csv(Case):
                      "--name-by-serial")
         self.done("csv", self.put("v.csv", "0031323334,bob\n"), *words)
 
-    def test_a_short_secret_has_a_note(self):
-        file = self.put("v.csv", "%s,bob\n%s,carol\n" % ("31" * 15, "32" * 16))
-        printed, said, status = self.run_it("csv", file, "--columns", "secret,user", "--type", "hotp")
-        self.assertEqual((status, said), (0, "onboard: %s line 1: note: the secret of bob has 15 bytes, and RFC 4226 wants 16 or more\n" % file))
-        self.assertEqual(printed.count("added"), 2)
+    def test_a_short_secret_is_refused(self):
+        self.takes_short = False
+        words = self.put("v.csv", "%s,bob\n%s,carol\n" % ("31" * 15, "32" * 16)), "--columns", "secret,user", "--type", "hotp"
+        self.assertIn("v.csv line 1: ShortSecret: 15 bytes, and RFC 4226 wants 16 or more\n", self.refused("ShortSecret", "csv", *words))
+        self.assertEqual(self.run_it("csv", *words, "--part")[2], 0)
+        self.assertEqual(sorted(self.rows()), ["ann", "carol"])
+        self.users.write_bytes(b"HOTP ann - 30\n")
+        self.assertEqual(self.done("csv", *words, "--short-secrets").count("added"), 2)
+
+    def test_names_that_look_like_another(self):
+        """Names of new users. Each that is refused shows nothing, or shows what another name shows."""
+        good = ["o'brien", "j.doe@example.org", "jos\u00e9", "\u0131\u011fd\u0131r", "\u0395\u03bb\u03ad\u03bd\u03b7", "\u0438\u0432\u0430\u043d",
+                "\u5c71\u7530", "\u7530\u4e2d\u3055\u3093", "\uae40\ucca0\uc218", "\u05d1\u05e0\u05d9", "\u0e44\u0e17\u0e22", "-a", "a" * 64]
+        bad = {"-": "hyphen", "a b": "blanks", "a\u00a0b": "blanks", "a\u200bnn": "shows nothing", "\u202eann": "shows nothing",
+               "ann\ufeff": "shows nothing", "a\u034fnn": "shows nothing", "a\u115fb": "shows nothing", "\u0430nn": "different scripts",
+               "\u0441\u043e\u0440\u0435": "Latin letters", "\u03a1": "Latin letters", "\uff41nn": "shorter form", "a\u0301": "shorter form",
+               "\ufb01n": "shorter form", "ann\u2010x": "sign or a digit", "ann\u0661": "sign or a digit", "\u0251nn": "looks like another",
+               "\u13aa\u13d2": "different scripts"}
+        for name in good:
+            self.assertIsNone(names.fault_of(name), ascii(name))
+        for name, why in bad.items():
+            self.assertIn(why, names.fault_of(name), ascii(name))
+            said = self.refused("BadName", "phone", name, "--issuer", "Site", "--uri") if name != "-" else why
+            self.assertIn(why, said)
+        self.done("phone", good[2], "--issuer", "Site", "--uri")
+        self.assertIn(good[2], self.rows())
 
     def test_columns_without_a_header(self):
         self.done("csv", SAMPLES / "oath.csv", "--columns", "serial,secret,type,digits,period", "--owners", SAMPLES / "owners.csv",
@@ -360,7 +385,7 @@ class Change(Case):
 
     def test_a_token_is_replaced_by_one_of_its_kind(self):
         kinds = {"dan": (b"0", "hotp", "digits=6&counter=0", 20), "dan.smith": (b"0", "hotp", "digits=6&counter=0", 20),
-                 "eve": (None, "totp", "algorithm=SHA256&digits=8&period=60", 32), "daN": (b"0", "hotp", "digits=7&counter=0", 20),
+                 "eve": (None, "totp", "algorithm=SHA256&digits=8&period=60", 20), "daN": (b"0", "hotp", "digits=7&counter=0", 20),
                  "dane": (None, "totp", "algorithm=SHA1&digits=6&period=30", 20)}
         before = {row.user: row for row in read_rows(self.users.read_bytes())}
         secrets = set()
@@ -388,12 +413,11 @@ class Change(Case):
         self.assertEqual((picture.read_bytes()[:8], stat.S_IMODE(picture.stat().st_mode)), (b"\x89PNG\r\n\x1a\n", 0o600))
         self.assertIn("\u2580", self.done("replace", "dan", "--issuer", "Site", "--terminal"))
 
-    def test_a_name_that_is_no_utf_8(self):
+    def test_a_file_that_is_no_utf_8(self):
         self.users.write_bytes(b"HOTP ann - 30\nHOTP\tren\xe9\t-\t31\n")
-        self.assertIn("otpauth://hotp/Site:rene?", self.done("replace", b"ren\xe9", "--issuer", "Site", "--uri", "--account", "rene"))
-        self.assertIn(b"HOTP\tren\xe9\t-\t", self.users.read_bytes())
-        self.done("retire", b"ren\xe9")
-        self.assertEqual(self.users.read_bytes(), b"HOTP ann - 30\n")
+        for words in ("retire", "ann"), ("retire", b"ren\xe9"), ("replace", "ann", "--issuer", "Site", "--uri"), \
+                ("phone", "gus", "--issuer", "Site", "--uri"):
+            self.assertIn("line 2 of the users file: NotText: it is not UTF-8: iconv -f LATIN1", self.refused("NotText", *words))
 
     def test_mode_owner_lock_and_link(self):
         for words in ("retire", "dan"), ("replace", "eve", "--issuer", "Site", "--uri"):

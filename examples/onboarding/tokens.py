@@ -5,6 +5,8 @@ import codecs
 import re
 from dataclasses import dataclass
 
+from names import fault_of
+
 # What stands in a users file before a field, and the types that its rows have.
 BLANKS = re.compile(rb"[ \t\r]+")
 TYPE = re.compile(rb"HOTP(?:/E(?:/[678])?)?|HOTP/T(?:30|60)(?:/[678](?:/SHA(?:256|512))?)?")
@@ -13,6 +15,9 @@ SERIAL = re.compile(rb"# (\S+)\r?")
 KINDS = {"hotp": "hotp", "hmac": "hotp", "event": "hotp", "totp": "totp", "time": "totp", "timebased": "totp"}
 HASHES = {"sha1": "SHA1", "sha256": "SHA256", "sha512": "SHA512"}
 NO_COUNTER = 2 ** 62
+# RFC 4226, section 4, R6: "The length of the shared secret MUST be at least 128 bits. This document RECOMMENDs a shared
+# secret length of 160 bits." The longer one has 32 letters to type.
+LEAST_BYTES, NEW_BYTES = 16, 20
 
 
 class Fault(Exception):
@@ -48,15 +53,17 @@ class Token:
         remark = "# %s\n" % self.serial if self.serial and self.serial != self.user else ""
         return (remark + "\t".join(fields) + "\n").encode()
 
-    def check(self):
-        """Raises the first fault of the token, if a users file has no row for it."""
-        user = (self.user or "").encode()
+    def check(self, takes_short=False):
+        """Raises the first fault of the token, if a users file has no row for it. A secret that is shorter than RFC 4226
+        allows is taken if that is said."""
+        user, name_fault, size = (self.user or "").encode(), fault_of(self.user or ""), len(self.secret)
         faults = [
             ("NoUser", not self.user, "no file says whose token %s is" % (self.serial or "this")),
-            ("BadName", re.search(r"[\s\x00-\x1f\x7f]", self.user or ""), "a name has no blanks: %r" % self.user),
+            ("BadName", name_fault, "%s: %s" % (name_fault, ascii(self.user))),
             ("NameTooLong", len(user) > 64, "a user's name has at most 64 bytes: %r" % self.user),
             ("BadSerial", not self.serial.isprintable(), "the serial number isn't printable: %r" % self.serial),
-            ("BadSecret", not 1 <= len(self.secret) <= 128, "a secret has 1 to 128 bytes: %d" % len(self.secret)),
+            ("BadSecret", not 1 <= size <= 128, "a secret has 1 to 128 bytes: %d" % size),
+            ("ShortSecret", size < LEAST_BYTES and not takes_short, "%d bytes, and RFC 4226 wants %d or more" % (size, LEAST_BYTES)),
             ("BadDigits", self.digits not in (6, 7, 8), "a code has 6 to 8 digits: %d" % self.digits),
             ("BadPeriod", self.kind == "totp" and self.period not in (30, 60), "30 or 60 seconds: %d" % self.period),
             ("BadHash", self.kind == "hotp" and self.hash != "SHA1", "an event token has SHA-1: %s" % self.hash),
@@ -125,6 +132,11 @@ def read_rows(text):
     if text.startswith(codecs.BOM_UTF8):
         raise Fault("line 1 of the users file", "ByteOrderMark", "save the file as UTF-8 without one")
     rows = []
+    try:
+        text.decode()
+    except UnicodeDecodeError as fault:
+        raise Fault("line %d of the users file" % (text[:fault.start].count(b"\n") + 1), "NotText",
+                    "it is not UTF-8: iconv -f LATIN1 -t UTF-8, if it was written so") from None
     for number, line in enumerate(text.split(b"\n"), 1):
         fields = [field for field in BLANKS.split(line) if field]
         if line.startswith(b"#") or not fields or not TYPE.fullmatch(fields[0]):

@@ -181,7 +181,7 @@ class Test:
         secret, uri, row = browser.text("#secret"), browser.text("#uri"), self.row("ann")
         raw = secret_of(secret)
         expect("the row", row, ["HOTP/E/6", "ann", ann.password, raw.hex(), "0"])
-        expect("another secret of 32 bytes", (len(raw), row[3] == old[3]), (32, False))
+        expect("another secret of 20 bytes", (len(raw), row[3] == old[3]), (20, False))
         expect("the link", uri.startswith("otpauth://hotp/Example%20Site:ann?secret=" + secret.replace(" ", "")), True)
         expect("the QR code has a name", browser.driver.find_element(By.CSS_SELECTOR, "svg[role=img]").accessible_name,
                "QR code of the new secret")
