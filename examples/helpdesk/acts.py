@@ -10,6 +10,8 @@ from book import User, duplicates, row_in, with_row, with_rows
 from tokens import NEW_BYTES, Fault, Token
 from users_file import UsersFile
 
+# The rows of a users file, and how many faults of `oathd check` are looked for.
+MOST_ROWS, MOST_FAULTS = 10_000, 10
 KINDS = {"totp": "An app that shows a new code every 30 seconds", "hotp": "A device that counts presses of a button"}
 
 
@@ -138,9 +140,12 @@ class Desk:
         return good, sorted(faults + twice, key=line_of) + self.oathd_faults(good)
 
     def oathd_faults(self, tokens):
-        """Returns what `oathd check` says of the rows alone, one fault after the other."""
+        """Returns what `oathd check` says of the rows alone, one fault after the other: not too many, since each costs a run
+        over all rows."""
         rows, faults = [(token, token.row("-")) for token in tokens], []
-        while rows:
+        if len(rows) > MOST_ROWS:
+            return ["the file: TooMany: it has %d rows, and a users file has %d at most" % (len(rows), MOST_ROWS)]
+        while rows and len(faults) < MOST_FAULTS:
             done = subprocess.run([self.book.oathd, "check", "/dev/stdin", "--cluster", self.book.cluster],
                                   input=b"".join(row.split(b"\n", row.count(b"\n") - 1)[-1] for _, row in rows),
                                   capture_output=True)
@@ -153,6 +158,8 @@ class Desk:
                 break
             token, _ = rows.pop(int(number) - 1)
             faults.append("%s: oathd check: %s" % (token.place, said.split(": ", 2)[2].splitlines()[0]))
+        if len(faults) == MOST_FAULTS:
+            faults.append("the file: oathd check: more faults are not looked for")
         return faults
 
     def import_rows(self, tokens):

@@ -3,6 +3,7 @@
 
 The last line counts. OATHD is the program. Packages: qrencode.
 """
+import io
 import os
 import re
 import signal
@@ -11,11 +12,15 @@ import sys
 import tempfile
 import time
 from pathlib import Path
+from types import SimpleNamespace
+from unittest import mock
 
 HERE = Path(__file__).resolve().parent
 TOP = HERE.parent.parent
 sys.dont_write_bytecode = True
 sys.path[:0] = [str(HERE), str(TOP / "examples/clients"), str(TOP / "examples/onboarding")]
+import flask
+import web
 from acts import Desk
 from book import Book, duplicates, user_of, with_row, with_rows
 from counting import await_that, expect, last_line
@@ -200,9 +205,29 @@ def unit():
     expect("OATHD", re.search(r"OATHD=(\S*)", (HERE / "helpdesk.service").read_text())[1], path)
 
 
+def uploads():
+    """A file of an import stays in memory, however long it is."""
+    words = SimpleNamespace(folders=[str(HERE)])
+    application, data = web.make_application(words, SimpleNamespace(name="trial"), []), b"x" * 1_900_000
+    with mock.patch.multiple("tempfile", SpooledTemporaryFile=None, TemporaryFile=None, NamedTemporaryFile=None):
+        with application.test_request_context(method="POST", data={"file": (io.BytesIO(data), "list.csv")}):
+            expect("its bytes", flask.request.files["file"].read() == data, True)
+
+
+def long_imports():
+    """The faults of a long list are told in some seconds."""
+    desk, begin = Desk(book_of(), None, None, lambda: set(), "Example Site"), time.monotonic()
+    rows = "".join("u%05d,%040x,HOTP\n" % (n, n + 1) for n in range(20_000))
+    good, faults = desk.check_import(("user,secret,type\n" + rows).encode(), "hex", None)
+    expect("its rows and its one fault", (len(good), faults),
+           (20_000, ["the file: TooMany: it has 20000 rows, and a users file has 10000 at most"]))
+    print("20,000 rows in %.1f s" % (time.monotonic() - begin))
+    expect("in time", time.monotonic() - begin < 60, True)
+
+
 def main():
     with tempfile.TemporaryDirectory() as folder:
-        for part in names, words, kinds, devices, pending, faulty, hooks, unit:
+        for part in names, words, kinds, devices, pending, faulty, hooks, unit, uploads, long_imports:
             print("%s: %s" % (part.__name__, part.__doc__), flush=True)
             begin(folder)
             part()

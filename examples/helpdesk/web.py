@@ -1,6 +1,8 @@
 """What the pages of a site share: who asks, which forms are ours, and what the browser is told."""
+import io
 import time
 
+import flask
 import wakdulg
 from flask import Flask, Response, redirect, render_template, request
 from jinja2 import FileSystemLoader
@@ -32,6 +34,13 @@ class Stop(Exception):
     def __init__(self, answer):
         super().__init__()
         self.answer = answer
+
+
+class Request(flask.Request):
+    """A request whose files stay in memory, since an import has secrets. MAX_CONTENT_LENGTH limits them."""
+
+    def _get_file_stream(self, *_, **__):
+        return io.BytesIO()
 
 
 def address():
@@ -179,7 +188,7 @@ def at_moment(seconds):
 def make_application(words, site, routes):
     """Returns the application of a site. A route is a path, a view and a method. Static files are the helpdesk's."""
     application = Flask(site.name, root_path=words.folders[-1])
-    application.config["MAX_CONTENT_LENGTH"] = 2_000_000
+    application.config["MAX_CONTENT_LENGTH"], application.request_class = 2_000_000, Request
     application.jinja_loader = FileSystemLoader([folder + "/templates" for folder in words.folders])
     application.jinja_env.filters["at_moment"] = at_moment
     application.jinja_env.trim_blocks = application.jinja_env.lstrip_blocks = True

@@ -12,6 +12,7 @@ import sys
 import tempfile
 import unittest
 from pathlib import Path
+from unittest import mock
 
 sys.dont_write_bytecode = True
 HERE = Path(__file__).resolve().parent
@@ -21,6 +22,7 @@ import aes
 import names
 import phone
 from tokens import Fault, Token, read_rows, read_secret
+from users_file import UsersFile
 
 SAMPLES = HERE / "samples"
 OATHTOOL = os.environ.get("OATHTOOL", str(TOP / "oathtool"))
@@ -447,6 +449,21 @@ class Change(Case):
 
 class File(Case):
     WORDS = ("csv", SAMPLES / "oath.csv", "--columns", "user,secret,type,digits,period")
+
+    def test_a_group_that_may_do_nothing_need_not_be_kept(self):
+        """As for a service, which isn't in the group of its user: a group with a right has to be kept."""
+        for mode, owner, is_kept in (0o600, 0, True), (0o640, 0, False), (0o620, 0, False), (0o600, 1, False):
+            self.users.chmod(mode)
+            users = UsersFile(self.users, create=False)
+            before = list(users.before)
+            before[stat.ST_UID], before[stat.ST_GID] = before[stat.ST_UID] + owner, before[stat.ST_GID] + 1
+            users.before = os.stat_result(before)
+            with mock.patch("os.fchown", side_effect=PermissionError), open(self.users) as file:
+                if is_kept:
+                    users.take_owner_and_mode(file.fileno())
+                else:
+                    self.assertRaises(PermissionError, users.take_owner_and_mode, file.fileno())
+        self.users.chmod(0o600)
 
     def test_mode_owner_and_link_stay(self, words=WORDS):
         self.users.chmod(0o640)

@@ -70,7 +70,12 @@ class UsersFile:
     def take_owner_and_mode(self, file):
         made = os.fstat(file)
         if (made.st_uid, made.st_gid) != (self.before.st_uid, self.before.st_gid):
-            os.fchown(file, self.before.st_uid, self.before.st_gid)
+            try:
+                os.fchown(file, self.before.st_uid, self.before.st_gid)
+            except PermissionError:
+                # A group that may do nothing with the file need not be kept, and a service isn't in that of its user.
+                if made.st_uid != self.before.st_uid or self.before.st_mode & stat.S_IRWXG:
+                    raise
         os.fchmod(file, stat.S_IMODE(self.before.st_mode))
 
     def check_unchanged(self):
