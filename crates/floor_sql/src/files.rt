@@ -1,6 +1,6 @@
 //! The files of a store, and whether they still stand at their paths.
 
-use crate::folder::FolderLook;
+use crate::folder::{Folder, FolderLook};
 use std::fs::{self, Metadata};
 use std::os::unix::fs::MetadataExt;
 use std::rt::Files;
@@ -52,16 +52,17 @@ impl PlacedFile {
 /// The database is looked for before its store is opened, and again at each commit: a file that takes its place
 /// meanwhile is seen. The log is looked for once it is there, which the opening sees to.
 ///
-/// While no name in their folder changes, a commit looks at the folder alone, and at the files once a second. Linux gives
-/// a file that was looked at another time at its next write, which the next sync of the log has to store.
+/// While neither their folder nor a name in it changes, a commit looks at the open folder alone, and at the paths ten
+/// times a second. Linux gives a file that was looked at another time at its next write, which the next sync of the log
+/// has to store.
 #[derive(Drop)]
 pub struct StoreFiles {
     rt: HostRuntime,
     database: Option<PlacedFile>,
     log: Option<PlacedFile>,
     // The folder of both files, unless the database is behind a link.
-    folder: Option<String>,
-    // The folder when both files were last found, if a later change of a name shows.
+    folder: Option<Folder>,
+    // The folder when it and both files were last found at their paths, if a later change of a name shows.
     found_in: Option<FolderLook>,
 }
 
@@ -76,8 +77,8 @@ fn log_at(rt: &HostRuntime, path: &str) -> Option<PlacedFile> {
     PlacedFile::found(rt, format!(in rt.alloc(); "{}-wal", real.as_str()).ok()?)
 }
 
-/// Returns the folder of the database at `path`, or None if it is behind a link or can't be found.
-fn folder_of(rt: &HostRuntime, path: &str) -> Option<String> {
+/// Returns the folder of the database at `path`, or None if it is behind a link or can't be opened.
+fn folder_of(rt: &HostRuntime, path: &str) -> Option<Folder> {
     if fs::symlink_metadata(rt, path).ok()?.is_symlink() {
         return None;
     }
@@ -85,7 +86,7 @@ fn folder_of(rt: &HostRuntime, path: &str) -> Option<String> {
         Some((folder, _)) => folder,
         None => ".",
     };
-    format!(in rt.alloc(); "{folder}/").ok()
+    Folder::open(rt, format!(in rt.alloc(); "{folder}/").ok()?)
 }
 
 impl StoreFiles {
@@ -109,9 +110,9 @@ impl StoreFiles {
         StoreFiles { log, ..self }
     }
 
-    /// Returns what is found of the folder now, or None if its names aren't those of the files.
+    /// Returns what is found of the open folder now, or None if the database is behind a link.
     fn folder_now(&self) -> Option<FolderLook> {
-        FolderLook::at(&self.rt, self.folder.as_ref()?.as_str())
+        self.folder.as_ref()?.look(&self.rt)
     }
 
     /// Returns whether both files are found at their paths.
@@ -121,6 +122,14 @@ impl StoreFiles {
                 database.is_in_place(&self.rt) && log.is_in_place(&self.rt)
             }
             _ => false,
+        }
+    }
+
+    /// Returns whether each change of what the paths name shows in later looks at the folder.
+    fn shows_changes(&self, look: &FolderLook) -> bool {
+        match &self.folder {
+            Some(folder) => look.is_settled() && folder.is_in_place(&self.rt, look),
+            None => false,
         }
     }
 
@@ -134,7 +143,7 @@ impl StoreFiles {
         }
         let are_found = self.are_found();
         self.found_in = match now {
-            Some(now) if are_found && now.is_settled() => Some(now),
+            Some(now) if are_found && self.shows_changes(&now) => Some(now),
             _ => None,
         };
         are_found
