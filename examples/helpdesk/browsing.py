@@ -167,8 +167,8 @@ class Browser:
     def log_in(self, token):
         self.open("/login")
         self.fill("Name", token.name)
-        if token.password != "-":
-            self.fill("Password", token.password)
+        if password_of(token):
+            self.fill("Password", password_of(token))
         self.fill("Code", token.code())
         self.press("Log in")
 
@@ -178,6 +178,11 @@ class Browser:
     def kept(self):
         """Returns the files of the profile."""
         return [path for path in self.profile.rglob("*") if path.is_file()]
+
+
+def password_of(token):
+    """Returns what the user gives as a password, or "" for none."""
+    return token.word or (token.password if token.password != "-" else "")
 
 
 class Window:
@@ -208,8 +213,7 @@ class Window:
 
     def log_in(self, token):
         self.ask("/login")
-        fields = {"password": token.password} if token.password != "-" else {}
-        return self.post("/login", user=token.name, code=token.code(), **fields)
+        return self.post("/login", user=token.name, code=token.code(), password=password_of(token))
 
 
 def await_answer(front, name, code, **more):

@@ -6,7 +6,9 @@ from acts import KINDS
 from book import User
 from flask import Response, redirect, render_template, request
 from members import settled
+from passwords import Passwords
 from sessions import is_same
+from staff import hashes_of
 from tokens import Fault
 import wakdulg
 import web
@@ -32,6 +34,7 @@ class Site(web.Pages):
     def __init__(self, words):
         super().__init__(words)
         self.members, self.table, self.logs = words.desk.members, words.table, words.logs
+        self.passwords = Passwords(lambda: hashes_of(words.staff))
 
     # ---- Who asks
 
@@ -43,8 +46,8 @@ class Site(web.Pages):
         return super().ask(user if user in self.desk.staff() else "", call)
 
     def check_login(self, user):
-        if user not in self.desk.staff():
-            raise wakdulg.BadField("not staff")
+        """The password first: a wrong one costs no code, and closes no token."""
+        self.passwords.check(user, request.form.get("password", ""))
         return self.check_code(user)
 
     def check_code(self, user):

@@ -3,7 +3,6 @@ import argparse
 import logging
 import os
 import sys
-from pathlib import Path
 
 import wakdulg
 from acts import Desk
@@ -11,6 +10,7 @@ from book import Book
 from gunicorn.app.base import BaseApplication
 from gunicorn.workers.gthread import ThreadWorker
 from record import Record
+from staff import names_of
 
 THREADS = 96
 LOG = logging.getLogger("logins")
@@ -50,11 +50,8 @@ def oathd():
 
 def staff_of(path):
     """Returns a call that gives the names of staff as the file has them now."""
-    def read():
-        lines = Path(path).read_text().splitlines()
-        return {line.strip() for line in lines if line.strip() and not line.startswith("#")}
-    read()
-    return read
+    names_of(path)
+    return lambda: names_of(path)
 
 
 def parser_of(usage):

@@ -53,7 +53,7 @@ class Phone:
 
     def __init__(self, site, name):
         self.site, self.name, self.next, self.lock = site, name, 0, threading.Lock()
-        self.key = wakdulg.read_key("7:%s" % (site.desk / "front.key"))
+        self.key = wakdulg.read_key("7:%s" % (site.folder / "front.key"))
 
     def secret(self):
         rows = [line.split() for line in self.site.read("desk/users").splitlines()]
@@ -183,6 +183,13 @@ class Test:
         user = Window(self.site)
         expect("a user who isn't staff", user.log_in(self.tokens["gus"]), "403")
         expect("whose code is good still", self.answer("gus", code(self.tokens["gus"].secret, 0)), "OK 0")
+        kim, window = self.kim, Window(self.site)
+        window.ask("/login")
+        told = [window.post("/login", user="kim", password=word, code=code(kim.secret, kim.next))
+                for word in ("", "word of sam, which is staff", kim.word + " ")]
+        expect("staff without the right password", told, ["403"] * 3)
+        expect("whose code is good still, and then a used one", (window.log_in(kim), window.post(
+            "/login", user="kim", password=kim.word, code=code(kim.secret, kim.next - 1))), ("303", "403"))
 
     def search(self):
         """Results while typing, markup in names."""
@@ -281,7 +288,7 @@ class Test:
         status, body = window.ask(place("ann", "retire"))
         expect("and sees a form", (status, bool(window.seen)), ("200", True))
         text = staff.read_text()
-        staff.write_text(text.replace("lou\n", ""))
+        staff.write_text(re.sub("(?m)^lou .*\n", "", text))
         expect("no page", [window.ask(path)[0] for path in ("/", place("ann"), "/record")], ["303"] * 3)
         told = window.post(place("ann", "retire"), seen=window.seen, code=self.tokens["lou"].code())
         expect("no act", (told, self.row("ann") is not None), ("403", True))
@@ -336,7 +343,7 @@ class Test:
         browser.expect_narrow("secret")
         secret = uri.partition("secret=")[2].partition("&")[0]
         raw = base64.b32decode(secret + "=" * (-len(secret) % 8))
-        expect("the row", row[:2] + [len(raw), row[3] == raw.hex()], ["HOTP/E/6", "eve", 32, True])
+        expect("the row", row[:2] + [len(raw), row[3] == raw.hex()], ["HOTP/E/6", "eve", 20, True])
         expect("the QR code has a name", browser.driver.find_element(By.CSS_SELECTOR, "svg[role=img]").accessible_name,
                "QR code of the new secret")
         self.have_row()
@@ -360,7 +367,7 @@ class Test:
         expect("the old phone", self.answer("cid", code(self.tokens["cid"].secret, 0)), "OK 0")
         self.act("cid", "Replace the phone")
         raw = bytes.fromhex(self.row("cid")[3])
-        expect("another secret", (raw.hex() == old[3], len(raw)), (False, 32))
+        expect("another secret", (raw.hex() == old[3], len(raw)), (False, 20))
         self.have_row()
         settle(self.site)
         expect("the new phone", self.answer("cid", code(raw, 0)), "OK 0")

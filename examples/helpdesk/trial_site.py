@@ -19,6 +19,7 @@ import wakdulg
 from members import Member, Silent
 from net import free_ports
 from otp import code
+from passwords import HASHER
 from tokens import read_rows
 from wakdulg_operator import read_operator
 
@@ -38,7 +39,8 @@ class Token:
     """A token in the hand of one user. It never gives a code twice."""
 
     def __init__(self, name, is_event=True, password="-", type=None):
-        self.name, self.password, self.next = name, password, 0
+        # The password of the row, and that of staff at the helpdesk.
+        self.name, self.password, self.word, self.next = name, password, None, 0
         self.type = type or ("HOTP" if is_event else "HOTP/T30")
         _, kind, digits, hash, *_ = (self.type + "/////").split("/")
         self.is_event, self.period = not kind.startswith("T"), int(kind[1:] or 30)
@@ -90,9 +92,14 @@ class Site:
         self.write("clients", "\n".join([*clients, "reader 901 " + reader, ""]))
         # The helpdesk has no key of the cluster.
         self.write("desk/cluster", cluster)
-        self.write("desk/front.key", front)
-        self.write("desk/operator", "operator 900 %s\n" % operator)
-        self.write("desk/staff", "".join(name + "\n" for name in staff))
+        # The keys of the helpdesk, and of the trial, which may run as another user.
+        for folder in "desk/", "":
+            self.write(folder + "front.key", front)
+            self.write(folder + "operator", "operator 900 %s\n" % operator)
+        for token in tokens:
+            token.word = "word of %s, which is staff" % token.name if token.name in staff else None
+        lines = ["%s %s\n" % (token.name, HASHER.hash(token.word)) for token in tokens if token.word]
+        self.write("desk/staff", "".join(lines))
         text = "".join(token.row() for token in tokens)
         self.write("desk/users", text)
         for node in NODES:
@@ -138,13 +145,13 @@ class Site:
         return "127.0.0.1:%d" % self.ports[node - 1]
 
     def front(self, nodes=NODES):
-        key = wakdulg.read_key("7:%s" % (self.desk / "front.key"))
+        key = wakdulg.read_key("7:%s" % (self.folder / "front.key"))
         text = ",".join("%d=%s" % (node, self.address(node)) for node in nodes)
         return wakdulg.Cluster(text, (6.0, 15.0), 60.0, key=key)
 
     def member(self, node, pause=3):
         """Returns what asks a running node, as the helpdesk does."""
-        return Member(node, ("127.0.0.1", self.ports[node - 1]), read_operator(str(self.desk / "operator")), pause)
+        return Member(node, ("127.0.0.1", self.ports[node - 1]), read_operator(str(self.folder / "operator")), pause)
 
     def book_of(self, node):
         """Returns the print of the users file that a running member has, or None if it is silent."""

@@ -450,6 +450,14 @@ class Change(Case):
 class File(Case):
     WORDS = ("csv", SAMPLES / "oath.csv", "--columns", "user,secret,type,digits,period")
 
+    def test_what_a_killed_process_left_is_removed(self):
+        left, others = ["users.new-1", "users.new-77-0a0b0c0d"], ["users.new-x", "users.new", "other.new-1", "users.new-aB3dE6gH"]
+        for name in left + others:
+            self.put(name, "HOTP\tann\t-\t00ff\t7\n")
+        self.done("phone", "gus", "--issuer", "Site", "--uri")
+        names = {each.name for each in self.folder.iterdir()}
+        self.assertEqual((names & {*left}, names & {*others}), (set(), {*others}))
+
     def test_a_group_that_may_do_nothing_need_not_be_kept(self):
         """As for a service, which isn't in the group of its user: a group with a right has to be kept."""
         for mode, owner, is_kept in (0o600, 0, True), (0o640, 0, False), (0o620, 0, False), (0o600, 1, False):

@@ -2,6 +2,8 @@
 import contextlib
 import fcntl
 import os
+import re
+import secrets
 import stat
 import subprocess
 
@@ -49,9 +51,18 @@ class UsersFile:
         lines[at - bool(remark):at + 1] = [] if new is None else [new]
         return b"\n".join(lines), remark and remark[1].decode("utf-8", "replace")
 
+    def remove_left(self):
+        """Removes what processes left that were killed while they wrote: it has all secrets. The lock is held, so none
+        writes now."""
+        folder, name = os.path.split(self.path)
+        for each in os.listdir(folder):
+            if re.fullmatch(re.escape(name) + r"\.new-\d+(-[0-9a-f]+)?", each):
+                os.unlink(os.path.join(folder, each))
+
     def replace(self, text):
         """Writes the text beside the file, with the mode and the owner of the file, and renames it."""
-        beside = "%s.new-%d" % (self.path, os.getpid())
+        self.remove_left()
+        beside = "%s.new-%d-%s" % (self.path, os.getpid(), secrets.token_hex(4))
         made = os.open(beside, os.O_WRONLY | os.O_CREAT | os.O_EXCL | os.O_NOFOLLOW, 0o600)
         try:
             with open(made, "wb") as file:

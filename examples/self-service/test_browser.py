@@ -37,9 +37,14 @@ class UsersSite(Site):
 class Client(Window):
     """A browser without JavaScript, in which a user logs in by one call."""
 
+    def log_in(self, token):
+        self.user = token
+        return super().log_in(token)
+
     def replace(self, **more):
         """Replaces the phone. Returns the status, and the new secret that the next page shows."""
         self.ask("/replace")
+        more = {"password": self.user.password, "code": self.user.code(), **more}
         status = self.post("/replace", seen=self.seen, **more)
         found = re.search('id="secret">([^<]*)', self.ask("/phone")[1]) if status == "303" else None
         return status, secret_of(found[1]) if found else None
@@ -74,7 +79,7 @@ class Test:
 
     def off(self):
         """Without its own word nothing starts, and only the acts that are named are there."""
-        words = [HERE / "self-service", "--key-file", "7:%s" % (self.site.desk / "front.key"), "--issuer", "Example"]
+        words = [HERE / "self-service", "--key-file", "7:%s" % (self.site.folder / "front.key"), "--issuer", "Example"]
         for name in "cluster", "users", "staff", "record":
             words += ["--" + name, self.site.desk / name]
         ends = [self.site.folder / "other-socket", self.site.url]
@@ -173,6 +178,7 @@ class Test:
         browser.press("Replace the phone")
         browser.picture("replace")
         browser.expect_narrow("replace")
+        self.refuse_to_replace(ann)
         begin = time.monotonic()
         browser.press("Replace the phone")
         expect("where the secret is shown", browser.path(), "/phone")
@@ -187,8 +193,24 @@ class Test:
                "QR code of the new secret")
         self.refuse_and_confirm(ann, raw)
         print("in use %.0f s after the click" % (time.monotonic() - begin))
-        expect("the old phone", self.answer("ann", code(ann.secret, 1)), "INVALID")
+        expect("the old phone", self.answer("ann", ann.code()), "INVALID")
         expect("the next code of the new phone", self.answer("ann", by_oathtool("-c", "1", raw.hex())), "OK 1")
+
+    def prove(self, token):
+        """Fills what shows that the user has the old phone."""
+        self.browser.fill("Password", token.password)
+        self.browser.fill("The next code of the old phone", token.code())
+
+    def refuse_to_replace(self, token):
+        """A session alone replaces no phone, nor does the code of its login."""
+        browser, row = self.browser, self.row(token.name)
+        browser.fill("Password", token.password)
+        browser.fill("The next code of the old phone", code(token.secret, 0))
+        browser.press("Replace the phone")
+        expect("the used code", ("was used before" in browser.text("[role=alert]"), self.row(token.name)), (True, row))
+        # The refusal has closed the token for some seconds.
+        time.sleep(6)
+        self.prove(token)
 
     def refuse_and_confirm(self, token, raw):
         browser = self.browser
@@ -255,7 +277,7 @@ class Test:
             expect("nor a session", other.log_in(self.tokens["pam"]), "503")
         with self.site.record_closed_after('"act": "replace", "user": "ole", "outcome": "begins"'):
             client.ask("/replace")
-            status = client.post("/replace", seen=client.seen)
+            status = client.post("/replace", seen=client.seen, password=client.user.password, code=client.user.code())
         page = client.ask("/phone")[1]
         shown = re.search('id="secret">([^<]*)', page)
         expect("the secret is shown", (status, shown and secret_of(shown[1]).hex()), ("303", self.row("ole")[3]))
@@ -266,6 +288,7 @@ class Test:
         browser, joe = self.browser, self.tokens["joe"]
         browser.log_in(joe)
         browser.open("/replace")
+        self.prove(joe)
         browser.press("Replace the phone")
         time.sleep(LATE)
         browser.fill("Password", joe.password)
@@ -285,6 +308,7 @@ class Test:
         browser.log_in(token)
         expect("its page", (browser.path(), browser.text("dd")), ("/", MARKUP))
         browser.open("/replace")
+        self.prove(token)
         browser.press("Replace the phone")
         expect("its link", "Example%20Site:%3Cimg%2Fsrc" in browser.text("#uri"), True)
         browser.press("Log out " + MARKUP)
@@ -316,8 +340,10 @@ class Test:
         """Asks for the head of the page with the secret: it isn't shown by that."""
         client = Client(self.site)
         expect("logged in", client.log_in(self.tokens["nia"]), "303")
+        expect("without a code", (client.ask("/replace")[0], client.post("/replace", seen=client.seen)), ("200", "403"))
+        more = {"password": client.user.password, "code": client.user.code()}
         client.ask("/replace")
-        expect("replaced", client.post("/replace", seen=client.seen), "303")
+        expect("replaced", client.post("/replace", seen=client.seen, **more), "303")
         head = self.site.curl("/phone", "-I", "-H", "Cookie: " + client.cookie)
         expect("a head", (head[0], head[2]), ("200", ""))
         expect("then the secret is shown", 'id="secret"' in client.ask("/phone")[1], True)
@@ -358,6 +384,7 @@ class Test:
         with self.site.closed(3):
             browser.log_in(lea)
             browser.open("/replace")
+            self.prove(lea)
             browser.press("Replace the phone")
             expect("what is said", "isn't known to all members" in browser.text("[role=status]"), True)
             raw = secret_of(browser.text("#secret"))
