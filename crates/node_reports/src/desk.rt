@@ -14,8 +14,9 @@ use crate::told::Told;
 use datagram_port::Clock;
 use floor_store::{FloorStore, StoreFault};
 use gatekeeping::Gatekeeper;
+use node_serving::{Attend, Stop};
 use oath_node::{Node, NodeFault};
-use oathd_database::{Attend, Stop, write_passes};
+use oathd_database::write_passes;
 use operator_text::{Reply, Report, Request, read_request, write_reply};
 use otp_core::MOMENTS_END;
 use sealed_port::SetAside;
@@ -378,7 +379,7 @@ impl<'d, N: TimeSource, T: Drop, U> Desk<'d, N, T, U> {
 
 impl<S: FloorStore, N: TimeSource, T: Told<S> + Drop, U: Stop> Attend<S> for Desk<'_, N, T, U> {
     ghost use Rattle.node_reports.specs.Desk.{DeskAnswers};
-    ghost use Rattle.oathd_database.specs.Stretches.{operator_acts};
+    ghost use Rattle.node_serving.specs.Stretches.{operator_acts};
 
     ghost answers = { λ desk. DeskAnswers (U.answers desk.until) };
 

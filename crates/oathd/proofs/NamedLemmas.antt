@@ -21,8 +21,8 @@ use Rattle.oathd_words.specs.declared.store_words.NamedAct.TheVariants as acts
 use Rattle.oathd_seats.specs.Commands.{HasAuditedNamed, HasExportedNamed, HasToldGatesNamed, HasToldRoster}
 use Rattle.oathd_seats.specs.Unlock.{UnlocksNamed}
 use Rattle.oathd_database.specs.declared.fault.Fault.TheVariants.{Memory, CannotWrite, NoClock, Users, Store, Socket}
-use Rattle.oathd_database.specs.declared.serving.Serving.{Serving}
-use Rattle.oathd_roster.specs.Served.{EndsServingNamed, HasServedNamed}
+use Rattle.node_serving.specs.declared.serving.Serving.{Serving}
+use Rattle.named_serving.specs.Served.{EndsServingNamed, HasServedNamed}
 use Rattle.oathd_roster.specs.declared.cluster.NamedCluster.{NamedCluster}
 use Rattle.oathd_roster.specs.declared.fault.RosterFault.{RosterFault}
 use Rattle.oathd_roster.specs.declared.fault.RosterFault.TheVariants.{Command, SameName, AnotherCluster, Full}

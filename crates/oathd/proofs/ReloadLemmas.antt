@@ -14,15 +14,15 @@ use Rattle.roster_sql.specs.declared.entry.Entry.{Entry}
 use Rattle.named_store.specs.Entries.{entries_of}
 use Rattle.named_store.specs.Seating.{AreDistinct}
 use Rattle.oath_node.specs.declared.turns.Served.{Served}
-use Rattle.oathd_database.specs.Serving.{IsAgain}
-use Rattle.oathd_database.specs.declared.serving.Serving.{Serving}
+use Rattle.node_serving.specs.Serving.{IsAgain}
+use Rattle.node_serving.specs.declared.serving.Serving.{Serving}
 use Rattle.oathd_database.specs.Users.{IsImported}
 use Rattle.oathd_roster.specs.Enrolled.{IsServedText}
-use Rattle.oathd_roster.specs.Served.{EndsServingNamed, HasServedNamed}
+use Rattle.named_serving.specs.Served.{EndsServingNamed, HasServedNamed}
 use Rattle.oathd_roster.specs.Users.{IsUnnamed}
 use Rattle.oathd_roster.specs.declared.cluster.NamedCluster.{NamedCluster}
 use Rattle.oathd_roster.specs.declared.fault.RosterFault.{RosterFault}
-use Rattle.oathd_roster.proofs.AnswerLemmas.{last_answer}
+use Rattle.named_serving.proofs.AnswerLemmas.{last_answer}
 use Rattle.oathd_words.specs.declared.store_words.ClientWords.{ClientWords}
 use Rattle.oathd_words.specs.declared.store_words.ClusterWords.{ClusterWords}
 use Rattle.oathd_words.specs.declared.store_words.ClusterWords.TheVariants.{Named}

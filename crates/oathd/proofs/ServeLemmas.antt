@@ -5,11 +5,11 @@ use Rattle.sqlite.specs.Store.{Ghosts}
 use Rattle.sqlite.specs.Held as sql
 use Rattle.otp_core.specs.Limits.{Limits}
 use Rattle.oath_node.specs.declared.turns.Served.{Served}
-use Rattle.oathd_database.specs.Commands.{EndsServing, HasServed, IsNotServed}
+use Rattle.node_serving.specs.Served.{EndsServing, HasServed, IsNotServed}
 use Rattle.oathd_database.specs.Users.{IsUnread}
 use Rattle.oathd_database.specs.declared.fault.Fault as database
 use Rattle.oathd_database.specs.declared.fault.Fault.TheVariants.{Memory, CannotWrite, NoClock, Users, Store, Socket}
-use Rattle.oathd_database.specs.declared.serving.Serving.{Serving}
+use Rattle.node_serving.specs.declared.serving.Serving.{Serving}
 use Rattle.oathd.specs.Serve.{EndsAsAsked, IsOfTask, IsServedAsAsked, ServeEndsSo}
 use Rattle.oathd.specs.Users.{IsOfUsers}
 use Rattle.oathd.specs.declared.fault.Fault.{Fault}

@@ -23,15 +23,15 @@ use Rattle.oathd_words.specs.declared.store_words.ClusterWords.{ClusterWords}
 use Rattle.oathd_words.specs.declared.store_words.ClusterWords.TheVariants.{Given, Named}
 use Rattle.oathd_words.specs.declared.store_words.ImportWords.{ImportWords}
 use Rattle.oathd_words.specs.declared.store_words.ImportWords.TheVariants as imports
-use Rattle.oathd_database.specs.declared.serving.Serving.{Serving}
+use Rattle.node_serving.specs.declared.serving.Serving.{Serving}
 use Rattle.oathd.specs.Done.{AreFloorsTold, AreMembersFloorsTold, IsCreated, IsDone, IsMemberCreated, IsMemberReplaced, IsReplaced}
 use Rattle.oathd_tasks.specs.Check.{IsKeyIn}
-use Rattle.oathd_database.specs.Serving.{IsOfMember}
-use Rattle.oathd_database.specs.declared.gate.ClientLines.{ClientLines}
-use Rattle.oathd_database.specs.declared.gate.ClientLines.TheVariants.{Of}
+use Rattle.node_serving.specs.Serving.{IsOfMember}
+use Rattle.node_serving.specs.declared.gate.ClientLines.{ClientLines}
+use Rattle.node_serving.specs.declared.gate.ClientLines.TheVariants.{Of}
 use Rattle.oathd_tasks.specs.Clients.{HasClients}
 use Rattle.clients_file.specs.declared.clients.Clients.{Clients}
-use Rattle.oathd_database.specs.declared.node_key.NodeKey.TheVariants.{Own}
+use Rattle.node_serving.specs.declared.node_key.NodeKey.TheVariants.{Own}
 use Rattle.oathd.specs.Named.{EndsSo, names_asked}
 use Rattle.oathd.specs.Serve.{AreLinesOf, IsAskedFor, IsMemberOf, IsRunOf, ServeEndsSo}
 use Rattle.oathd.specs.declared.fault.Fault.{Fault}

@@ -29,7 +29,7 @@ use Rattle.oathd_database.specs.Lost.{HasRemade}
 use Rattle.oathd_database.specs.Made.{HasMadeMember, store_line}
 use Rattle.oathd_database.specs.Unlock.{Unlocks}
 use Rattle.oathd_database.specs.declared.lost.LostNode.{LostNode}
-use Rattle.oathd_database.specs.declared.serving.Serving.{Serving}
+use Rattle.node_serving.specs.declared.serving.Serving.{Serving}
 use Rattle.oathd_roster.specs.declared.cluster.NamedCluster.{NamedCluster}
 use Rattle.oathd_tasks.specs.Check.{IsKeyIn}
 use Rattle.oathd.specs.Named.{AreNamedFloorsTold, IsActDone, IsNamedIn, IsNamedOf, IsRemadeByNames, IsServedByNames, names_asked, never}

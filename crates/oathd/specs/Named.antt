@@ -15,7 +15,7 @@ use Rattle.oathd_words.specs.declared.former_words.FormerWords.{FormerWords}
 use Rattle.oathd_words.specs.declared.store_words.ClusterWords.{ClusterWords}
 use Rattle.oathd_words.specs.declared.store_words.ClusterWords.TheVariants.{Given, Named}
 use Rattle.oathd_database.specs.declared.fault.Fault.TheVariants.{Memory, CannotWrite, NoClock, Users, Store, Socket}
-use Rattle.oathd_database.specs.declared.serving.Serving.{Serving}
+use Rattle.node_serving.specs.declared.serving.Serving.{Serving}
 use Rattle.oathd_words.specs.declared.store_words.NamedAct.{NamedAct}
 use Rattle.oathd_words.specs.declared.store_words.NamedAct.TheVariants as acts
 use Rattle.oathd_floors.specs.Dropped.{HasDropped}
@@ -29,7 +29,7 @@ use Rattle.oathd_seats.specs.Commands.{HasAuditedNamed, HasExportedNamed, HasTol
 use Rattle.oathd_seats.specs.Unlock.{UnlocksNamed}
 use Rattle.oathd_seats.specs.declared.fault.SeatsFault.{SeatsFault}
 use Rattle.oathd_seats.specs.declared.fault.SeatsFault.TheVariants as seats
-use Rattle.oathd_roster.specs.Served.{EndsServingNamed, HasServedNamed}
+use Rattle.named_serving.specs.Served.{EndsServingNamed, HasServedNamed}
 use Rattle.oathd_roster.specs.declared.cluster.NamedCluster.{NamedCluster}
 use Rattle.oathd_roster.specs.declared.fault.RosterFault.{RosterFault}
 use Rattle.oathd_roster.specs.declared.fault.RosterFault.TheVariants.{Command, SameName, AnotherCluster, Full}

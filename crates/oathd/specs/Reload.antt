@@ -8,11 +8,11 @@ use Rattle.named_store.specs.Seating.{AreDistinct}
 use Rattle.oathd_words.specs.declared.store_words.ClusterWords.{ClusterWords}
 use Rattle.oathd_words.specs.declared.store_words.ClusterWords.TheVariants.{Given, Named}
 use Rattle.oathd_database.specs.Commands.{HasImport}
-use Rattle.oathd_database.specs.Serving.{IsAgain}
+use Rattle.node_serving.specs.Serving.{IsAgain}
 use Rattle.oathd_database.specs.declared.fault.Fault as database
 use Rattle.oathd_database.specs.declared.fault.Fault.TheVariants.{CannotWrite, NoClock, Users, Store, Socket}
 use Rattle.oathd_database.specs.declared.fault.Fault.TheVariants as faults
-use Rattle.oathd_database.specs.declared.serving.Serving.{Serving}
+use Rattle.node_serving.specs.declared.serving.Serving.{Serving}
 use Rattle.oathd_roster.specs.Enrolled.{IsServedText}
 use Rattle.oathd_roster.specs.Users.{IsUnnamed}
 use Rattle.oathd_roster.specs.declared.cluster.NamedCluster.{NamedCluster}

@@ -17,14 +17,14 @@ use Rattle.oathd_words.specs.declared.store_words.ClusterWords.{ClusterWords}
 use Rattle.oathd_words.specs.declared.store_words.ClusterWords.TheVariants.{Given, Named}
 use Rattle.oathd_tasks.specs.Check.{IsKeyIn}
 use Rattle.oathd_tasks.specs.Clients.{HasClients}
-use Rattle.oathd_database.specs.Commands.{EndsServing, HasServed}
-use Rattle.oathd_database.specs.Serving.{IsOfMember}
+use Rattle.node_serving.specs.Served.{EndsServing, HasServed}
+use Rattle.node_serving.specs.Serving.{IsOfMember}
 use Rattle.oathd_database.specs.declared.fault.Fault as database
 use Rattle.oathd_database.specs.declared.fault.Fault.TheVariants.{Memory, CannotWrite, NoClock, Users, Store, Socket}
-use Rattle.oathd_database.specs.declared.gate.ClientLines.{ClientLines}
-use Rattle.oathd_database.specs.declared.gate.ClientLines.TheVariants.{Anybody, ThisMachine, Of}
-use Rattle.oathd_database.specs.declared.node_key.NodeKey.TheVariants.{Own}
-use Rattle.oathd_database.specs.declared.serving.Serving.{Serving}
+use Rattle.node_serving.specs.declared.gate.ClientLines.{ClientLines}
+use Rattle.node_serving.specs.declared.gate.ClientLines.TheVariants.{Anybody, ThisMachine, Of}
+use Rattle.node_serving.specs.declared.node_key.NodeKey.TheVariants.{Own}
+use Rattle.node_serving.specs.declared.serving.Serving.{Serving}
 use Rattle.oathd.specs.declared.fault.Fault.{Fault}
 use Rattle.oathd.specs.declared.fault.Fault.TheVariants.{Database, Floors, Task, Unlock, Roster, Seats, Names}
 

@@ -6,7 +6,7 @@ ghost use Rattle.floor_sql.specs.Usable.{IsNode};
 ghost use Rattle.otp_core.specs.Range.{IsMoment};
 ghost use Rattle.cluster_file.specs.ClusterFile.{cluster_of, cluster_value};
 ghost use Rattle.oathd_database.specs.File.{FindsFiles};
-ghost use Rattle.oathd_database.specs.Gate.{IsSaid};
+ghost use Rattle.node_serving.specs.Gate.{IsSaid};
 ghost use Rattle.oathd_causes.specs.declared.roster.NamesFault.TheVariants as names;
 ghost use Rattle.oathd_database.specs.declared.fault.Fault.TheVariants as database;
 ghost use Rattle.oathd_words.specs.StoreWords.{IsActionInRange, IsClusterInRange, has_log};
@@ -25,11 +25,12 @@ use datagram_port::Clock;
 use floor_sql::SqlStore;
 use floors_file::MAX_FLOORS_LEN;
 use log_writer::{LogWriter, SteadyWriter, SyslogWriter, UdpOutlet};
+use node_serving::{ClientLines, NodeKey, Serving, serve_store};
 use oathd_causes::NamesFault;
 use oathd_database::{
-    ClientLines, DatabaseFile, LostNode, NodeKey, Serving, audit_store, export_store, floors_store,
-    gates_store, init_lost_store, init_member_store, init_store, level_store, migrate_store,
-    read_users, serve_store, unlock_store, write_store,
+    DatabaseFile, LostNode, audit_store, export_store, floors_store, gates_store, init_lost_store,
+    init_member_store, init_store, level_store, migrate_store, read_users, unlock_store,
+    write_store,
 };
 use oathd_roster::NamedCluster;
 use oathd_tasks::{clients_at, cluster_in, cluster_key, member_place, read_key};

@@ -18,13 +18,15 @@ use crate::shared::tell_shared_secret;
 use crate::users::{checked_users_text, users_text};
 use cluster_file::{Cluster, ClusterFault, LineFault};
 use floors_file::MAX_NAMED_FLOORS_LEN;
+use named_serving::serve_named_store;
+use node_serving::{KeptSocket, Serving};
 use oath_node::Never;
 use oathd_causes::NamesFault;
-use oathd_database::{DatabaseFile, KeptSocket, Serving};
+use oathd_database::DatabaseFile;
 use oathd_floors::{
     Former, drop_retired_rows, level_named_store, name_store, remake_named_store, tell_named_floors,
 };
-use oathd_roster::{NamedCluster, begin_store, serve_named_store};
+use oathd_roster::{NamedCluster, begin_store};
 use oathd_seats::{
     audit_named_store, export_named_store, gates_named_store, roster_named_store,
     unlock_named_store,

@@ -16,9 +16,10 @@ use crate::shared::tell_shared_secret;
 use crate::users::users_text;
 use crate::watch::{Found, Stamp, Watch, stamp_of};
 use floor_store::StoreFault;
+use named_serving::serve_named_store;
+use node_serving::{KeptSocket, Serving};
 use oathd_causes::{NamesFault, Standing};
-use oathd_database::{KeptSocket, Serving};
-use oathd_roster::{NamedCluster, read_named_users, serve_named_store};
+use oathd_roster::{NamedCluster, read_named_users};
 use oathd_tasks::{cluster_in, cluster_key, member_place};
 use oathd_words::{ClientWords, ClusterWords};
 use otp_core::Settings;
@@ -40,7 +41,7 @@ struct Boot {
 
 /// What holds of the boots after the first one.
 trait Later {
-    ghost use Rattle.oathd_database.specs.declared.serving.Serving.{Serving};
+    ghost use Rattle.node_serving.specs.declared.serving.Serving.{Serving};
     ghost use Rattle.oathd_roster.specs.declared.cluster.NamedCluster.{NamedCluster};
     ghost use Rattle.oathd.specs.declared.reload.Boot.{Boot};
 

@@ -7,7 +7,7 @@ ghost use Rattle.oathd.specs.declared.fault.Fault.{Fault};
 
 use crate::refusal::{Refusal, refusal_of};
 use crate::users::users_text;
-use oathd_database::Stop;
+use node_serving::Stop;
 use otp_core::{MOMENTS_END, Settings};
 use std::alloc::Global;
 use std::fs;

@@ -1,5 +1,5 @@
 mod EndLemmas
-mod FaultLemmas
+pub mod FaultLemmas
 mod TextLemmas
 mod UsersLemmas
 mod FloorsLemmas
@@ -11,9 +11,6 @@ mod LevelLemmas
 mod GateLemmas
 mod UnlockLemmas
 mod ReachLemmas
-mod ServedLemmas
-pub mod StretchLemmas
-mod KeyLemmas
 mod BootLemmas
 mod AnewLemmas
 pub mod BrokenLemmas

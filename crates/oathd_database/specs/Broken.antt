@@ -1,8 +1,7 @@
 -- Minimal databases, users files and floors files that keep or break one field of a promise. No contract cites them.
-use Rattle.std.specs.Prelude.{◌≡◌, ℕ, zero, suc, ◌+◌, pos, refl, Bool, true, false, List, [], ◌∷◌, Option, None, Some, codes}
+use Rattle.std.specs.Prelude.{◌≡◌, ℕ, zero, suc, pos, refl, Bool, true, false, List, [], ◌∷◌, Option, None, Some, codes}
 use Rattle.std.specs.Global.{Vec}
 use Rattle.std.specs.Borrow.{Bor}
-use Rattle.std.specs.declared.net.socket_addr.SocketAddrV4.{SocketAddrV4}
 use Rattle.std.proofs.Math.Dec.{lit≤}
 use denote.RawPtr.{null_ptr}
 use Rattle.sqlite.specs.Held.{Held as Conn}
@@ -26,16 +25,12 @@ use Rattle.floor_sql.specs.Schema.{floor_schema}
 use Rattle.floors_file.specs.Examples.{text_of}
 use Rattle.floors_file.specs.declared.fault.LineFault.{LineFault as FloorsLineFault}
 use Rattle.floors_file.specs.declared.gathered.Asked.{Asked}
-use Rattle.oath_node.specs.declared.turns.Served.{Served}
 use Rattle.oathd_database.specs.Users.{IsImported}
 use Rattle.oathd_database.specs.declared.fault.Fault.{Fault}
 use Rattle.oathd_database.specs.declared.fault.Fault.TheVariants.{Users}
 use Rattle.oathd_database.specs.declared.gather.GatherFault.{GatherFault}
 use Rattle.oathd_database.specs.declared.gather.GatherFault.TheVariants.{Floors}
 use Rattle.oathd_database.specs.declared.lost.LostNode.{LostNode}
-use Rattle.oathd_database.specs.declared.gate.ClientLines.TheVariants.{Anybody}
-use Rattle.oathd_database.specs.declared.node_key.NodeKey.TheVariants.{Own}
-use Rattle.oathd_database.specs.declared.serving.Serving.{Serving}
 use Rattle.oathd_database.specs.declared.unlock.UnlockFault.{UnlockFault}
 use Rattle.oathd_database.specs.declared.unlock.UnlockFault.TheVariants.{NoUser}
 
@@ -74,10 +69,6 @@ fallen = disk_of false (λ disk. tables_at 0 [])
 -- a disk that always shows `trees`
 abbrev pub still : Trees → Ghosts ℕ
 still trees = disk_of true (λ disk. trees)
-
--- a disk at boot 4 that can be written once, at boot 5
-abbrev pub booting : Ghosts ℕ
-booting = disk_of true (λ disk. tables_at (4 + disk) [])
 
 -- the tables of node 1, and of node 2 with a pass
 abbrev pub two_tables : ℕ → Trees
@@ -224,26 +215,3 @@ failing content = record (holding content) { fault = Some Disk; failures = 1 }
 -- a fault of a name that no token has
 abbrev pub no_user : List ℕ → UnlockFault
 no_user name = NoUser (record { ref_ptr = (0, 0); now = name })
-
--- ---- a node
-
--- a number of datagrams and of replies
-abbrev pub so_much : ℕ → ℕ → Served
-so_much received replied = record { received = received; replied = replied }
-
--- the only node at an address, served for no turn
-abbrev pub serving_for : SocketAddrV4 → Serving
-serving_for address = record {
-  settings = default_limits;
-  place = record { me = 1; n = 1 };
-  members = one_item address;
-  key = Own [];
-  turns = 0;
-  is_logged = false;
-  lines = Anybody;
-  clients_said = (lit≤ tt, lit≤ tt);
-  few = lit≤ tt;
-  each = refl;
-  settings_agreed = refl;
-  members_agreed = refl;
-}

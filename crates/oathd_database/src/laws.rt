@@ -2,9 +2,8 @@
 //!
 //! Floor: the first free factor of a token at a node.
 
-ghost use Rattle.std.specs.Prelude.{◌≡◌, ◌≤◌, ℕ, ◌+◌, List, [], ◌∷◌, ◌++◌, None, Ok, Some, codes, false, length, map, slice_index, true};
+ghost use Rattle.std.specs.Prelude.{◌≡◌, ◌≤◌, ℕ, ◌+◌, List, [], ◌∷◌, ◌++◌, None, Ok, Some, codes, length, map, slice_index, true};
 ghost use Rattle.std.specs.declared.fs.attrs.Metadata.{Metadata};
-ghost use Rattle.std.specs.declared.net.socket_addr.SocketAddrV4.{SocketAddrV4};
 ghost use Rattle.otp_core.specs.Gate.{clear_gate};
 ghost use Rattle.otp_core.specs.Limits.{Limits, default_limits};
 ghost use Rattle.token_file.specs.Credential.{Credential};
@@ -19,7 +18,6 @@ ghost use Rattle.floor_store.specs.Records.{RowRecord};
 ghost use Rattle.floor_store.specs.declared.fault.StoreFault.TheVariants.{Disk, Spent, Unusable};
 ghost use Rattle.floor_sql.specs.Broken.{put_of, tables_at};
 ghost use Rattle.floor_sql.specs.Schema.{floor_schema, undrifted_schema};
-ghost use Rattle.udp_port.specs.Calls.{events_of_calls};
 ghost use Rattle.vote_core.specs.Cases.{alone, own_floors};
 ghost use Rattle.vote_core.specs.Safety.{MayOpen};
 ghost use Rattle.vote_core.specs.Schedule.{Event, Opening, acceptances, all_most, cluster_before, first_opening};
@@ -34,31 +32,17 @@ ghost use Rattle.oath_node.specs.declared.fault.NodeFault.TheVariants.{Spent as 
 ghost use Rattle.oath_node.specs.declared.fault.OpenFault.TheVariants.{Memory as OpenMemory, Store as OpenStore};
 ghost use Rattle.oath_node.specs.declared.serve_fault.ServeFault.TheVariants.{Clock, Node, Port};
 ghost use Rattle.oathd_database.specs.Anew.{AreAbove, AreMadeAnew, IsSameUser};
-ghost use Rattle.oathd_database.specs.Broken.{IsOfClock, IsOfOne, asked_for, booting, conn_of, drifting, failing, fallen, floors_fault, floors_text, lost_nodes, migrating, new_store, no_floors, no_user, no_users, one_book, serving_for, shows_any, shows_none, small_conn, so_much, still, two_disks, users_fault, whole};
-ghost use Rattle.oathd_database.specs.Commands.{EndsOutput, EndsServing, HasAudited, HasExported, HasImport, HasMade, HasMigrated, HasOpened, HasServed, IsNotServed, IsRefused};
+ghost use Rattle.oathd_database.specs.Broken.{IsOfClock, IsOfOne, asked_for, conn_of, drifting, failing, fallen, floors_fault, floors_text, lost_nodes, migrating, new_store, no_floors, no_user, no_users, one_book, shows_any, shows_none, small_conn, still, two_disks, users_fault, whole};
+ghost use Rattle.oathd_database.specs.Commands.{EndsOutput, HasAudited, HasExported, HasImport, HasMade, HasMigrated, HasOpened, IsRefused};
 ghost use Rattle.oathd_database.specs.Examples.{gate_with, opening_at, row_with, store_with, told_alone, two_closed};
 ghost use Rattle.oathd_database.specs.Fault.{IsOpenFault, IsOutputFault, open_fault_of, serve_fault_of, status_of};
 ghost use Rattle.oathd_database.specs.File.{IsEmptyFile};
 ghost use Rattle.oathd_database.specs.Floors.{HasToldFloors, IsToldFault, told_floors, told_rows};
-ghost use Rattle.clients_file.specs.declared.clients.Clients.{Clients};
-ghost use Rattle.oathd_database.specs.Front.{IsFrontFault, IsFrontOf};
-ghost use Rattle.oathd_database.specs.Gate.{IsSaid, gate_from};
-ghost use Rattle.oathd_database.specs.declared.gate.ClientLines.TheVariants.{Anybody, Of, ThisMachine};
-ghost use Rattle.oathd_database.specs.declared.gate.Front.TheVariants as fronts;
 ghost use Rattle.oathd_database.specs.Gates.{HasToldGates, gate_line, gate_row, gate_text, gates_text};
 ghost use Rattle.oathd_database.specs.Gather.{gather_status};
 ghost use Rattle.oathd_database.specs.Level.{HasLevelled, IsNotLevelled, IsPartLevelled, Levels, levelled, levelled_rows, told_by};
 ghost use Rattle.oathd_database.specs.Lost.{HasFault, HasRemade, IsGathered, IsNotRemade, IsUngathered, IsUngatheredFor};
 ghost use Rattle.oathd_database.specs.Reach.{AreFound, AreReadAfter, IsLastLoss};
-ghost use Rattle.std.specs.Borrow.{Bor};
-ghost use Rattle.cluster_file.specs.ClusterFile.{cluster_value};
-ghost use Rattle.cluster_file.specs.Key.{shared_key_of};
-ghost use Rattle.cluster_file.specs.Shared.{shared_of};
-ghost use Rattle.cluster_file.specs.declared.cluster.Cluster.{Cluster};
-ghost use Rattle.vote_core.specs.NodeSet.{PlaceRecord};
-ghost use Rattle.oathd_database.specs.NodeKey.{tag_key};
-ghost use Rattle.oathd_database.specs.Serving.{IsOfMember};
-ghost use Rattle.oathd_database.specs.declared.serving.Serving.{Serving};
 ghost use Rattle.oathd_database.specs.Tables.{KeepsTables, WritesAudit};
 ghost use Rattle.oathd_database.specs.Text.{WritesToken, audit_text, export_text};
 ghost use Rattle.oathd_database.specs.Unlock.{HasUser, IsNotUnlocked, LacksUser, Unlocks, unlock_status, unlocked_content};
@@ -190,18 +174,6 @@ pub fn imports_can_be_broken()
     ensures output_clock { EndsOutput default_limits 0 6 NoClock (codes "# none") → ⊥ }
     ensures output_socket { EndsOutput default_limits 0 6 Socket (codes "# none") → ⊥ }
 
-    // the faults of a command that serves
-    ensures serving { IsNotServed default_limits 0 6 Socket (codes "# none") }
-    ensures serving_no_clock { IsNotServed default_limits 0 6 NoClock (codes "# none") }
-    ensures serving_store { IsNotServed default_limits 0 6 (Store Disk) (codes "# none") }
-    ensures serving_for_memory { IsNotServed default_limits 0 6 Memory no_users }
-    ensures serving_users { IsNotServed default_limits 0 6 (users_fault 1 MissingField) no_users }
-    ensures serving_wrong_users { IsNotServed default_limits 0 6 (users_fault 1 MissingField) (codes "# none") → ⊥ }
-    ensures serving_before_import { IsNotServed default_limits 0 6 Socket no_users → ⊥ }
-    ensures serving_clock_before_import { IsNotServed default_limits 0 6 NoClock no_users → ⊥ }
-    ensures serving_store_before_import { IsNotServed default_limits 0 6 (Store Disk) no_users → ⊥ }
-    ensures serving_output { IsNotServed default_limits 0 6 CannotWrite (codes "# none") → ⊥ }
-
     // the faults of a store's calls, and an empty file
     ensures of_output { IsOutputFault None CannotWrite × IsOutputFault (Some Disk) (Store Disk) }
     ensures of_output_works { IsOutputFault None (Store Disk) → ⊥ }
@@ -311,61 +283,6 @@ pub fn commands_can_be_broken()
         (Some (codes "floors 1 2 3 4 5 0\n")) [] → ⊥ }
     ensures told_written { HasToldFloors (still (tables_at 4 [])) shows_any default_limits 11 1 3 5 (Some [])
         (Some (codes "x")) [] → ⊥ }
-
-    // a node is served
-    ensures served_import { (address : SocketAddrV4)
-        → HasServed fallen shows_any (serving_for address) (Ok (so_much 0 0)) no_users → ⊥ }
-    ensures served_opened { (address : SocketAddrV4) (users : List ℕ) → IsOfOne 0 16777216 users
-        → HasServed booting shows_any (serving_for address) (Ok (so_much 0 0)) users → ⊥ }
-    ensures served_in_boot { (address : SocketAddrV4)
-        → HasServed (still (tables_at 4 [])) shows_any (serving_for address) (Ok (so_much 0 0)) [] → ⊥ }
-    ensures served_book { (address : SocketAddrV4)
-        → (h : HasServed booting shows_any (serving_for address) (Ok (so_much 0 0)) []) → h.first.book ≡ [] }
-    ensures served_limits { (address : SocketAddrV4)
-        → (h : HasServed booting shows_any (serving_for address) (Ok (so_much 0 0)) [])
-        → h.first.limits ≡ default_limits }
-    ensures served_key { (address : SocketAddrV4)
-        → (h : HasServed booting shows_any (serving_for address) (Ok (so_much 0 0)) []) → h.first.key ≡ [] }
-    ensures served_place { (address : SocketAddrV4)
-        → (h : HasServed booting shows_any (serving_for address) (Ok (so_much 0 0)) []) → h.first.voter.place.n ≡ 1 }
-    ensures served_record { (address : SocketAddrV4)
-        → (h : HasServed booting shows_any (serving_for address) (Ok (so_much 0 0)) []) → h.served_is.events ≡ [] }
-    ensures served_members { (address : SocketAddrV4)
-        → (h : HasServed booting shows_any (serving_for address) (Ok (so_much 0 0)) [])
-        → h.served_is.events ≡ events_of_calls true false (address ∷ []) h.served_is.calls }
-    ensures served_serves { (address : SocketAddrV4)
-        → HasServed booting shows_any (serving_for address) (Ok (so_much 1 0)) [] → ⊥ }
-    // A fault ends the command before its first turn, or in a turn.
-    ensures ends_before { (address : SocketAddrV4)
-        → EndsServing fallen shows_any (serving_for address) Socket (codes "# none") }
-    ensures ends_as_no_turn { (address : SocketAddrV4)
-        → EndsServing booting shows_any (serving_for address) CannotWrite [] → ⊥ }
-{}
-
-/// Members: the one that [`Serving::of_member`](crate::Serving::of_member) describes has what its cluster file says.
-pub fn members_follow_their_file()
-    ensures settings { (cluster : Bor Cluster) (key : List ℕ) (place : PlaceRecord) (serving : Serving)
-        → IsOfMember cluster key place serving → serving.settings ≡ cluster.now.settings }
-    ensures place { (cluster : Bor Cluster) (key : List ℕ) (place : PlaceRecord) (serving : Serving)
-        → IsOfMember cluster key place serving → serving.place ≡ place }
-    ensures members { (cluster : Bor Cluster) (key : List ℕ) (place : PlaceRecord) (serving : Serving)
-        → IsOfMember cluster key place serving → serving.members.items ≡ cluster.now.members.items }
-    ensures key { (cluster : Bor Cluster) (key : List ℕ) (place : PlaceRecord) (serving : Serving)
-        (book : List Credential) → IsOfMember cluster key place serving
-        → tag_key serving.key book ≡ shared_key_of key (shared_of (cluster_value cluster.now) book) }
-{}
-
-/// Counterexamples: each promise of what stands between a socket and its clients fails for a minimal one.
-pub fn fronts_can_be_broken()
-    ensures plain { IsFrontOf 1 Anybody fronts.Anybody × IsFrontOf 1 ThisMachine fronts.ThisMachine }
-    ensures another { (IsFrontOf 1 Anybody fronts.ThisMachine → ⊥) × (IsFrontOf 1 ThisMachine fronts.Anybody → ⊥) }
-    ensures gate { (clients : Clients) → IsFrontOf 1 (Of clients) (fronts.Gate (gate_from 1 5 clients)) }
-    ensures no_gate { (clients : Clients) → (IsFrontOf 1 (Of clients) fronts.Anybody → ⊥)
-        × (IsFrontOf 1 (Of clients) fronts.ThisMachine → ⊥) }
-    ensures gate_of_another { (clients : Clients) → IsFrontOf 1 (Of clients) (fronts.Gate (gate_from 2 5 clients)) → ⊥ }
-    ensures said { (clients : Clients) → clients.ahead ≡ 60 → IsSaid (Of clients) }
-    ensures said_too_much { (clients : Clients) → clients.ahead ≡ 61 → IsSaid (Of clients) → ⊥ }
-    ensures fault { IsFrontFault Memory × IsFrontFault NoClock × (IsFrontFault Socket → ⊥) }
 {}
 
 /// Counterexamples: each promise of a command over floors files fails for a minimal one.

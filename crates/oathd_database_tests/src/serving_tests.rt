@@ -1,6 +1,6 @@
 //! The parameters and the socket of a node that is served several times.
 
-use oathd_database::{ClientLines, KeptSocket, NodeKey, Serving};
+use node_serving::{ClientLines, KeptSocket, NodeKey, Serving};
 use otp_core::Settings;
 use std::net::{Ipv4Addr, SocketAddrV4};
 use std::test::Fail;

@@ -4,11 +4,9 @@ use datagram_port::{Coming, ListClock, ListPort, PortEntry, Sender};
 use floor_sql::SqlStore;
 use floor_store::{FloorStore, StoreFault};
 use gatekeeping::Gatekeeper;
+use node_serving::{Attend, Attended, open_node, serve_node};
 use oath_node::{Never, Node, NodeFault, Served};
-use oathd_database::{
-    Attend, Attended, Database, Fault, init_store, open_node, open_store, serve_node, write_audit,
-    write_rows,
-};
+use oathd_database::{Database, Fault, init_store, open_store, write_audit, write_rows};
 use otp_core::Settings;
 use sqlite::{Connection, MemStore};
 use std::alloc::Global;

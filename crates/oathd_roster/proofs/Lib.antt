@@ -1,10 +1,5 @@
 mod EnrolmentLemmas
-mod UsersLemmas
+pub mod UsersLemmas
 mod OpenedLemmas
 mod EnrolledLemmas
 mod BegunLemmas
-mod NamedLemmas
-mod FloorsLemmas
-mod TellingLemmas
-mod ServedLemmas
-pub mod AnswerLemmas

@@ -10,12 +10,8 @@ mod cluster;
 mod enrolled;
 mod enrolment;
 mod fault;
-mod floors;
 mod laws;
-mod names;
-mod naming;
 mod opening;
-mod serve;
 mod users;
 
 pub use begin::{begin_store, open_created};
@@ -25,5 +21,4 @@ pub use enrolment::{enrolments_are_worked, fresh_tokens_are_ready};
 pub use fault::RosterFault;
 pub use laws::{enrolled_rows_are_lines, enrolled_rows_are_worked, faults_are_worked};
 pub use opening::open_named_store;
-pub use serve::serve_named_store;
 pub use users::{NamedUsers, read_named_users};

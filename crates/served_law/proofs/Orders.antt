@@ -19,10 +19,10 @@ use Rattle.oath_node.specs.declared.serve_fault.ServeFault.{ServeFault}
 use Rattle.oath_node.specs.declared.turns.Served.{Served}
 use Rattle.seated_store.specs.Seated.{SeatedRecord, seated_held}
 use Rattle.vote_wire.specs.Key.{bare}
-use Rattle.oathd_database.specs.Stretches.{FailsToAct, operator_acts}
+use Rattle.node_serving.specs.Stretches.{FailsToAct, operator_acts}
 use Rattle.oathd_database.specs.declared.fault.Fault.{Fault}
-use Rattle.oathd_database.specs.declared.serving.Serving.{Serving}
-use Rattle.oathd_roster.specs.Served.{HasServedNamed}
+use Rattle.node_serving.specs.declared.serving.Serving.{Serving}
+use Rattle.named_serving.specs.Served.{HasServedNamed}
 use Rattle.oathd_roster.specs.declared.cluster.NamedCluster.{NamedCluster}
 use Rattle.book_law.specs.Lives.{Setting, Store, Terms}
 use Rattle.book_law.specs.Stretches.{AreServed as AreServedOf, Stretch as StretchOf, token_cleared, tokens_cleared}

@@ -12,7 +12,7 @@ use Rattle.oath_node.specs.declared.fault.NodeFault.{NodeFault}
 use Rattle.oath_node.specs.declared.serve_fault.ServeFault.{ServeFault}
 use Rattle.oath_node.specs.declared.turns.Served.{Served}
 use Rattle.seated_store.specs.Seated.{SeatedRecord, seated_held}
-use Rattle.oathd_database.specs.Stretches.{AreServed, FailsToAct, Stretch, operator_acts}
+use Rattle.node_serving.specs.Stretches.{AreServed, FailsToAct, Stretch, operator_acts}
 use Rattle.book_law.specs.Lives.{Setting, Store, Terms}
 use Rattle.book_law.specs.Stretches.{ActsAs, AreServed as AreServedOf, Stretch as StretchOf, token_cleared, tokens_cleared}
 use Rattle.book_law.specs.Uses.{IsSeatedMember, WasProcessIn}

@@ -23,12 +23,12 @@ use Rattle.named_port.specs.Translator.{new_translator}
 use Rattle.named_store.specs.Seating.{AreDistinct, name_at, rows_after}
 use Rattle.named_store.specs.declared.opening.RowCounts.{RowCounts}
 use Rattle.oath_node.specs.declared.turns.Served.{Served}
-use Rattle.oathd_database.specs.NodeKey.{tag_key}
+use Rattle.node_serving.specs.NodeKey.{tag_key}
 use Rattle.oathd_database.specs.declared.fault.Fault.{Fault}
-use Rattle.oathd_database.specs.declared.serving.Serving.{Serving}
+use Rattle.node_serving.specs.declared.serving.Serving.{Serving}
 use Rattle.oathd_roster.specs.Enrolment.{enrolment_floors}
 use Rattle.oathd_roster.specs.Opened.{HasOpenedNamed}
-use Rattle.oathd_roster.specs.Served.{HasServedNamed}
+use Rattle.named_serving.specs.Served.{HasServedNamed}
 use Rattle.oathd_roster.specs.declared.cluster.NamedCluster.{NamedCluster}
 use Rattle.vote_wire.specs.Key.{bare}
 use Rattle.vote_core.specs.Books.{are_apart, is_number}

@@ -16,10 +16,10 @@ use Rattle.oath_node.specs.declared.serve_fault.ServeFault.{ServeFault}
 use Rattle.oath_node.specs.declared.turns.Served.{Served}
 use Rattle.vote_core.specs.Schedule.{is_member}
 use Rattle.vote_wire.specs.Key.{bare}
-use Rattle.oathd_database.specs.Stretches.{FailsToAct, operator_acts}
+use Rattle.node_serving.specs.Stretches.{FailsToAct, operator_acts}
 use Rattle.oathd_database.specs.declared.fault.Fault.{Fault}
-use Rattle.oathd_database.specs.declared.serving.Serving.{Serving}
-use Rattle.oathd_roster.specs.Served.{HasServedNamed}
+use Rattle.node_serving.specs.declared.serving.Serving.{Serving}
+use Rattle.named_serving.specs.Served.{HasServedNamed}
 use Rattle.oathd_roster.specs.declared.cluster.NamedCluster.{NamedCluster}
 use Rattle.book_law.specs.Lives.{Enrols, Raises, Sealed, Setting, Store, Terms, made_boot}
 use Rattle.book_law.specs.Stretches.{Stretch as StretchOf, token_cleared, tokens_cleared}

@@ -9,7 +9,7 @@ use Rattle.oath_node.specs.TurnServing.{ServesUntil}
 use Rattle.oath_node.specs.declared.fault.NodeFault.{NodeFault}
 use Rattle.oath_node.specs.declared.serve_fault.ServeFault.{ServeFault}
 use Rattle.oath_node.specs.declared.turns.Served.{Served}
-use Rattle.oathd_database.specs.Stretches.{AreServed, FailsToAct, ServesIn, Stretch, operator_acts}
+use Rattle.node_serving.specs.Stretches.{AreServed, FailsToAct, ServesIn, Stretch, operator_acts}
 use Rattle.book_law.specs.Lives.{Setting, Store, Terms}
 use Rattle.book_law.specs.Stretches.{Stretch as StretchOf, token_cleared, tokens_cleared}
 use Rattle.book_law.specs.Uses.{WasProcessIn}

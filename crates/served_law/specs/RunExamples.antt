@@ -3,7 +3,7 @@ use Rattle.std.specs.Prelude.{List, [], ◌∷◌, Some}
 use Rattle.floor_store.specs.Broken.{SmallStore}
 use Rattle.oath_node.specs.Broken.{small_node}
 use Rattle.oath_node.specs.Hosted.{Hosted}
-use Rattle.oathd_database.specs.Stretches.{Stretch}
+use Rattle.node_serving.specs.Stretches.{Stretch}
 use Rattle.book_law.specs.Lives.{Enrols, Unlocks}
 use Rattle.book_law.specs.Uses.{StoreUse, Writes}
 use Rattle.order_law.specs.Steps.{Does, Step}

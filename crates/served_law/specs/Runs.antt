@@ -15,10 +15,10 @@ use Rattle.seated_store.specs.Seated.{SeatedRecord, seated_held}
 use Rattle.named_port.specs.Runs.{handed_events}
 use Rattle.oath_node.specs.declared.turns.Served.{Served}
 use Rattle.vote_wire.specs.Key.{bare}
-use Rattle.oathd_database.specs.Stretches.{unasked}
+use Rattle.node_serving.specs.Stretches.{unasked}
 use Rattle.oathd_database.specs.declared.fault.Fault.{Fault}
-use Rattle.oathd_database.specs.declared.serving.Serving.{Serving}
-use Rattle.oathd_roster.specs.Served.{HasServedNamed}
+use Rattle.node_serving.specs.declared.serving.Serving.{Serving}
+use Rattle.named_serving.specs.Served.{HasServedNamed}
 use Rattle.oathd_roster.specs.declared.cluster.NamedCluster.{NamedCluster}
 use Rattle.book_law.specs.Lives.{Action, Setting, Store, Terms, store_under}
 use Rattle.book_law.specs.Uses.{AreUses, IsWriting, Part, ServesInParts, StoreUse, Writes, entries_in, first_store, store_after, written_store}

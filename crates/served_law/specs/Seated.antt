@@ -13,8 +13,8 @@ use Rattle.roster_sql.specs.Roster.{BondRecord, HoldsNamed}
 use Rattle.roster_sql.specs.declared.entry.Entry.{Entry}
 use Rattle.seated_store.specs.Seated.{SeatedRecord}
 use Rattle.named_port.specs.Names.{number_of}
-use Rattle.oathd_database.specs.NodeKey.{tag_key}
-use Rattle.oathd_database.specs.declared.serving.Serving.{Serving}
+use Rattle.node_serving.specs.NodeKey.{tag_key}
+use Rattle.node_serving.specs.declared.serving.Serving.{Serving}
 use Rattle.oathd_roster.specs.declared.cluster.NamedCluster.{NamedCluster}
 use Rattle.book_law.specs.Lives.{Store, Terms, do_fit, places_of}
 use Rattle.name_law.specs.Datagrams.{AreNames}

@@ -17,12 +17,12 @@ ghost use Rattle.oath_node.specs.Machine.{Peer};
 ghost use Rattle.oath_node.specs.declared.turns.Served.{Served};
 ghost use Rattle.vote_core.specs.Schedule.{Envelope};
 ghost use Rattle.vote_wire.specs.Key.{bare};
-ghost use Rattle.oathd_database.specs.NodeKey.{tag_key};
-ghost use Rattle.oathd_database.specs.Stretches.{unasked};
+ghost use Rattle.node_serving.specs.NodeKey.{tag_key};
+ghost use Rattle.node_serving.specs.Stretches.{unasked};
 ghost use Rattle.oathd_database.specs.declared.fault.Fault.{Fault};
-ghost use Rattle.oathd_database.specs.declared.serving.Serving.{Serving};
+ghost use Rattle.node_serving.specs.declared.serving.Serving.{Serving};
 ghost use Rattle.oathd_roster.specs.Opened.{HasOpenedNamed};
-ghost use Rattle.oathd_roster.specs.Served.{HasServedNamed};
+ghost use Rattle.named_serving.specs.Served.{HasServedNamed};
 ghost use Rattle.oathd_roster.specs.declared.cluster.NamedCluster.{NamedCluster};
 ghost use Rattle.book_law.specs.Lives.{Setting, Store, Terms, accepted_in, floor_in};
 ghost use Rattle.book_law.specs.Seeds.{AreGreatest, HaveSeedsOnce, UsesGreatest};
@@ -46,7 +46,8 @@ ghost use Rattle.served_law.specs.Seated.{HasKnownRows, HasRows, IsSeatedStore, 
 
 use name_law::named_ports_tell_envelopes;
 use named_order_law::{unforged_interleavings_are_safe, unforged_interleavings_keep_devices};
-use oathd_database::{Database, Stop};
+use node_serving::Stop;
+use oathd_database::Database;
 use sqlite::Alter;
 
 /// Rows: the tables of a store that is opened by names have its content and one list of rows.

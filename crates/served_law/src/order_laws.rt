@@ -9,7 +9,7 @@ ghost use Rattle.oath_node.specs.Hosted.{Hosted};
 ghost use Rattle.oath_node.specs.TurnServing.{ServesUntil};
 ghost use Rattle.oath_node.specs.declared.serve_fault.ServeFault.{ServeFault};
 ghost use Rattle.oath_node.specs.declared.turns.Served.{Served};
-ghost use Rattle.oathd_database.specs.Stretches.{FailsToAct, operator_acts, unasked};
+ghost use Rattle.node_serving.specs.Stretches.{FailsToAct, operator_acts, unasked};
 ghost use Rattle.vote_core.specs.Schedule.{is_member};
 ghost use Rattle.vote_wire.specs.Key.{bare};
 ghost use Rattle.book_law.specs.Lives.{Enrols, Raises, Setting, Store, Terms};
@@ -23,7 +23,8 @@ ghost use Rattle.served_law.specs.Processes.{RunsIn, stretches_of};
 ghost use Rattle.served_law.specs.RunExamples.{two_commands, two_steps};
 ghost use Rattle.served_law.specs.Runs.{AreAllNamedUses, AreNamedUses, IsRunOver, NamedRun, NamedUse, entries_of, store_found, store_left};
 
-use oathd_database::{Database, Stop};
+use node_serving::Stop;
+use oathd_database::Database;
 use sqlite::Alter;
 
 /// Worked cases and counterexamples: each condition of the steps of one run fails for a minimal one.

@@ -18,10 +18,10 @@ ghost use Rattle.oath_node.specs.Unlocking.{UnlocksNode};
 ghost use Rattle.oath_node.specs.declared.fault.NodeFault.{NodeFault};
 ghost use Rattle.oath_node.specs.declared.serve_fault.ServeFault.{ServeFault};
 ghost use Rattle.oath_node.specs.declared.turns.Served.{Served};
-ghost use Rattle.oathd_database.specs.Stretches.{AreServed, FailsToAct, Stretch, operator_acts, unasked};
+ghost use Rattle.node_serving.specs.Stretches.{AreServed, FailsToAct, Stretch, operator_acts, unasked};
 ghost use Rattle.oathd_database.specs.declared.fault.Fault.{Fault};
-ghost use Rattle.oathd_database.specs.declared.serving.Serving.{Serving};
-ghost use Rattle.oathd_roster.specs.Served.{HasServedNamed};
+ghost use Rattle.node_serving.specs.declared.serving.Serving.{Serving};
+ghost use Rattle.named_serving.specs.Served.{HasServedNamed};
 ghost use Rattle.oathd_roster.specs.declared.cluster.NamedCluster.{NamedCluster};
 ghost use Rattle.book_law.specs.Lives.{Enrols, Setting, Store, Terms};
 ghost use Rattle.book_law.specs.Seeds.{HaveSeedsOnce};
@@ -35,7 +35,8 @@ ghost use Rattle.served_law.specs.RunExamples.{stretch_from, two_commands, two_w
 ghost use Rattle.served_law.specs.Runs.{AreNamedUses, AreOf, AreOfRun, HasUsesOf, HoldsStore, IsRunOver, IsSound, NamedRun, NamedUse, RunsBy, WritesBy, answers_of, entries_of, store_found, store_left, terms_in, view_of};
 ghost use Rattle.served_law.specs.Seated.{HasKnownRows};
 
-use oathd_database::{Database, Stop};
+use node_serving::Stop;
+use oathd_database::Database;
 use sqlite::Alter;
 
 /// Worked cases: what acts unlocked, and the stretches with these numbers.

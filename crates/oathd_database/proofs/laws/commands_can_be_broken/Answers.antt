@@ -1,5 +1,5 @@
 -- Each promise is asked about the one that breaks it.
-use Rattle.std.proofs.Common.{◌≡◌, inl, inr, ℕ, zero, suc, ◌+◌, false, List, [], ◌∷◌, length, true, refl, ap, subst, ◌∙◌, arith}
+use Rattle.std.proofs.Common.{◌≡◌, ℕ, zero, suc, false, List, [], ◌∷◌, length, true, refl, ap, subst, ◌∙◌, arith}
 use Rattle.std.specs.Prelude.{codes}
 use Rattle.sqlite.specs.Effect.{Database}
 use Rattle.sqlite.specs.Tree.{Trees}
@@ -10,18 +10,16 @@ use Rattle.token_file.specs.declared.token.Kind.TheVariants.{Time30}
 use Rattle.floor_store.specs.Content.{Content}
 use Rattle.floor_store.specs.Records.{PassRecord}
 use Rattle.floor_sql.specs.Broken.{small_content, tables_at}
-use Rattle.floor_sql.specs.Held.{sql_held}
 use Rattle.floor_sql.specs.Schema.{floor_schema, undrifted_schema, version_of}
 use Rattle.floor_sql.specs.Stored.{Holds}
 use Rattle.floor_sql.specs.declared.schema.Format.{Format}
 use Rattle.floor_sql.specs.declared.schema.Format.TheVariants.{Numbered}
 use Rattle.floor_sql.proofs.BrokenLemmas.{none_holds, own_row_is}
 use Rattle.floors_file.specs.Writing.{head_text, floors_text}
-use Rattle.oath_node.specs.declared.turns.Served.{Served}
-use Rattle.oathd_database.specs.Broken.{booting, conn_of, old_and_new, new_store, one_book, so_much, small_conn, two_tables}
+use Rattle.oathd_database.specs.Broken.{conn_of, old_and_new, new_store, one_book, small_conn, two_tables}
 use Rattle.oathd_database.specs.Floors.{told_floors}
 use Rattle.oathd_database.specs.Text.{export_text}
-use Rattle.oathd_database.proofs.BrokenLemmas.{clean_is, fallen_is, fallen_made, fallen_migrated, fallen_opened, imported_is, no_output, none_held, nothing_served, nothing_written, one_token, opened_over, stays}
+use Rattle.oathd_database.proofs.BrokenLemmas.{clean_is, fallen_is, fallen_made, fallen_migrated, fallen_opened, imported_is, none_held, nothing_written, one_token, opened_over, stays}
 use Rattle.oathd_database.proofs.laws.commands_can_be_broken.Goals as goal
 
 pub returns-clause-made : goal.returns-clause-made
@@ -200,35 +198,6 @@ returns-clause-told_written c h =
     let e : codes "x" ≡ floors_text (told_floors 1 3 5 h.import.book h.store.mirror) = h.written (clean_is (λ disk. tables_at 4 []) h.store.conn) in
     absurd cc
 
-pub returns-clause-served_opened : goal.returns-clause-served_opened
-returns-clause-served_opened c address users of_one h =
-    let is : length h.import.book ≡ 0 = (opened_over (λ disk. 4 + disk) h.opened.conn h.opened.node (length h.import.book) h.found h.opened.opened).1 in
-    let one : length h.import.book ≡ 1 = one_token 0 16777216 users of_one h.import in
-    omega (arith, is, one)
-
-pub returns-clause-served_in_boot : goal.returns-clause-served_in_boot
-returns-clause-served_in_boot c address h =
-    let clean = clean_is (λ disk. tables_at 4 []) h.first.store.conn in
-    let found : h.found.mirror.boot ≡ 4 = (opened_over (λ disk. 4) h.opened.conn h.opened.node (length h.import.book) h.found h.opened.opened).2 in
-    let now = ap (λ (content : Content). content.boot) (h.in_boot.raises.writes.makes.ok clean) in
-    let left = h.in_boot.raises.writes.settled clean (small_content 4)
-    (record { clean = clean; trees = tables_at 4 []; left = refl; format = Numbered; passes = []; holds = none_holds 4 }) in
-    let boot = ap (λ (content : Content). content.boot) left in
-    omega (arith, found, now, boot)
-
-pub returns-clause-served_serves : goal.returns-clause-served_serves
-returns-clause-served_serves c address h =
-    let none = nothing_served (sql_held booting) h.first h.last (so_much 1 0) h.served_is (clean_is (λ disk. tables_at (4 + disk) []) h.last.store.conn) in
-    let e : 1 ≡ 0 = ap (λ (served : Served). served.received) none.0 in
-    omega (arith, e)
-
-pub returns-clause-served_record : goal.returns-clause-served_record
-returns-clause-served_record c address h =
-    (nothing_served (sql_held booting) h.first h.last (so_much 0 0) h.served_is (clean_is (λ disk. tables_at (4 + disk) []) h.last.store.conn)).1
-
-pub returns-clause-served_members : goal.returns-clause-served_members
-returns-clause-served_members c address h = h.served_is.of_setup
-
 pub returns-clause-opened_found : goal.returns-clause-opened_found
 returns-clause-opened_found c h = h.found (clean_is (λ disk. tables_at 4 []) h.conn)
 
@@ -246,9 +215,3 @@ returns-clause-made_found c h = h.found (clean_is (λ disk. tables_at 0 []) h.co
 
 pub returns-clause-migrated_found : goal.returns-clause-migrated_found
 returns-clause-migrated_found c h = h.found (clean_is old_and_new h.old)
-
-pub returns-clause-ends_before : goal.returns-clause-ends_before
-returns-clause-ends_before c address = inl (record { book = []; floors = []; imported = refl })
-
-pub returns-clause-ends_as_no_turn : goal.returns-clause-ends_as_no_turn
-returns-clause-ends_as_no_turn c address h = elim h [ inl before ↦ before | inr has ↦ no_output has.served_is.end has.served_is.ends ]

@@ -38,12 +38,3 @@ returns-clause-output c = none
 
 pub returns-clause-output_store : goal.returns-clause-output_store
 returns-clause-output_store c = none
-
-pub returns-clause-serving : goal.returns-clause-serving
-returns-clause-serving c = none
-
-pub returns-clause-serving_no_clock : goal.returns-clause-serving_no_clock
-returns-clause-serving_no_clock c = none
-
-pub returns-clause-serving_store : goal.returns-clause-serving_store
-returns-clause-serving_store c = none

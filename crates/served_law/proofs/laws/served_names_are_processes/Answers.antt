@@ -1,5 +1,5 @@
 -- The first two are one lemma, and the inputs are a law of ports.
-use Rattle.oathd_database.specs.Stretches.{unasked}
+use Rattle.node_serving.specs.Stretches.{unasked}
 use Rattle.served_law.specs.Runs.{store_found, terms_in}
 use Rattle.served_law.proofs.Runs.{run_is_one_use}
 use Rattle.served_law.proofs.laws.served_names_are_processes.Goals as goal

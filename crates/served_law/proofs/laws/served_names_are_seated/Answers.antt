@@ -1,5 +1,5 @@
 -- Both are one lemma.
-use Rattle.oathd_database.specs.Stretches.{unasked}
+use Rattle.node_serving.specs.Stretches.{unasked}
 use Rattle.served_law.proofs.Seated.{seated_member}
 use Rattle.served_law.proofs.laws.served_names_are_seated.Goals as goal
 

@@ -1,5 +1,5 @@
 -- Each is a lemma.
-use Rattle.oathd_database.specs.Stretches.{unasked}
+use Rattle.node_serving.specs.Stretches.{unasked}
 use Rattle.served_law.proofs.Orders.{all_named_steps, named_has_steps, named_run_in_order}
 use Rattle.served_law.proofs.laws.served_names_have_steps.Goals as goal
 

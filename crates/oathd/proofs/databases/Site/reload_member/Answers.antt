@@ -1,6 +1,6 @@
 use Rattle.std.proofs.Common.{subst}
 use Rattle.cluster_file.specs.ClusterFile.{cluster_value}
-use Rattle.oathd_database.specs.declared.serving.Serving.{Serving}
+use Rattle.node_serving.specs.declared.serving.Serving.{Serving}
 use Rattle.oathd.specs.Named.{AreNamesIn, IsNamedOf}
 use Rattle.oathd.specs.Serve.{IsMemberOf, IsRunOf}
 use Rattle.oathd.proofs.ReloadLemmas.{first_boot}

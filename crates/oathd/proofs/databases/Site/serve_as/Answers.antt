@@ -1,6 +1,6 @@
 use Rattle.std.proofs.Common.{◌≡◌, drop, refl}
 use Rattle.std.specs.Io.Cursor.{cursor_inner, cursor_position}
-use Rattle.oathd_database.specs.declared.serving.Serving.{Serving}
+use Rattle.node_serving.specs.declared.serving.Serving.{Serving}
 use Rattle.oathd.specs.Serve.{ServeEndsSo}
 use Rattle.oathd.specs.declared.fault.Fault.TheVariants.{Database}
 use Rattle.oathd.proofs.FaultLemmas.{failed_so}

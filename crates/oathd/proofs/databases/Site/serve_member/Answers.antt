@@ -1,5 +1,5 @@
 use Rattle.cluster_file.specs.ClusterFile.{cluster_of, cluster_value}
-use Rattle.oathd_database.specs.declared.serving.Serving.{Serving}
+use Rattle.node_serving.specs.declared.serving.Serving.{Serving}
 use Rattle.oathd.specs.Named.{EndsSo, names_in}
 use Rattle.oathd.specs.Serve.{IsMemberOf, IsRunOf}
 use Rattle.oathd.specs.declared.fault.Fault.TheVariants.{Task}

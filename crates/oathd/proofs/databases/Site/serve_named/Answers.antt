@@ -1,5 +1,5 @@
 use Rattle.std.proofs.Common.{◌≡◌, refl}
-use Rattle.oathd_database.specs.declared.serving.Serving.{Serving}
+use Rattle.node_serving.specs.declared.serving.Serving.{Serving}
 use Rattle.oathd_roster.specs.declared.cluster.NamedCluster.{NamedCluster}
 use Rattle.oathd.specs.Named.{NamedEndsSo, fault_of, never}
 use Rattle.oathd.proofs.FaultLemmas.{failed_so}

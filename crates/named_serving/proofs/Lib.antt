@@ -1,0 +1,5 @@
+mod NamedLemmas
+mod FloorsLemmas
+mod TellingLemmas
+mod ServedLemmas
+pub mod AnswerLemmas

@@ -1,0 +1,531 @@
+//! The command `serve` over a store by names: runs a node over the store and a socket.
+
+ghost use Rattle.std.specs.Prelude.{◌≡◌, ◌⊎◌, ◌<◌, ◌^◌, [], None, Some, false, true, if◌then◌else◌, length, map, Result, Ok, Err, IfErr, IfOk, IfSome, IsSome};
+ghost use Rattle.otp_core.specs.Range.{IsMoment};
+ghost use Rattle.cluster_file.specs.Rows.{book_print_of};
+ghost use Rattle.node_reports.specs.Desk.{DeskAnswers};
+ghost use Rattle.oath_node.specs.declared.serve_fault.ServeFault.{ServeFault};
+ghost use Rattle.oath_node.specs.declared.turns.Served.{Served};
+ghost use Rattle.oathd_database.specs.Fault.{IsOpenFault, serve_end};
+ghost use Rattle.node_serving.specs.Setup.{setup_behind, setup_for};
+ghost use Rattle.node_serving.specs.Stretches.{ServesIn, operator_acts, unasked};
+ghost use Rattle.named_serving.specs.Log.{roster_at};
+ghost use Rattle.named_serving.specs.Served.{EndsServingRows, HasServedRows, IsEarlyFault, IsNamingOf, IsServedNamed, IsServedOver, ServesNamed, packer_of, translator_of};
+
+use crate::floors::floors_of;
+use crate::names::names_in;
+use crate::naming::Naming;
+use bundle_port::BundlePort;
+use cluster_file::book_print;
+use command_line::VERSION;
+use count_port::CountPort;
+use floor_port::{FloorPort, Membership};
+use floor_store::FloorStore;
+use gatekeeping::Gatekeeper;
+use kept_rows::write_left;
+use named_port::{NamedPort, Names};
+use named_store::RowCounts;
+use node_log::{Roster, Start};
+use node_reports::{Desk, NamedRows, Standing, Told, version_of};
+use node_serving::{
+    Attend, Attended, Front, KeptSocket, ServeLog, Serving, Stop, front_of, log_of, open_node,
+    serve_port, start_of, tag_key,
+};
+use oath_node::{Node, Served};
+use oathd_database::{Database, Fault};
+use oathd_roster::{NamedCluster, NamedUsers, RosterFault, open_named_store};
+use sealed_port::SealedPort;
+use sqlite::Alter;
+use std::alloc::Global;
+use std::io::Write;
+use std::net::Net;
+use std::time::Clock as TimeSource;
+use token_file::Book;
+use udp_port::{SystemClock, UdpPort};
+use vote_core::Place;
+use vote_wire::ClusterKey;
+
+/// Serves a node over a port by names, with a log if there is one. If operators may ask, another port above it counts
+/// what passes.
+///
+/// # Errors
+/// Returns the errors of [`serve_port`].
+fn serve_asked<S: FloorStore, P: Gatekeeper + Drop, N: TimeSource, W: Write, U: Attend<S>>(
+    node: &mut Node<'_, S>,
+    port: P,
+    member: Membership,
+    is_asked: bool,
+    outside: &N,
+    turns: u64,
+    until: &mut Attended<U>,
+    log: Option<ServeLog>,
+    writer: &mut W,
+) -> Result<Served, Fault>
+    requires turns { turns < 2 ^ 54 }
+    requires fresh { IfSome (P.events port) (λ events. events ≡ []) }
+    ensures turns { (end : Result Served ServeFault) × (last : P)
+        × ServesIn S.held U.acts node.old node.new (P.events port) (P.events last) None None turns
+        (U.answers until.new.attendant) end × (P.setup last ≡ P.setup port) × (result ≡ serve_end end) }
+    ensures unlogged { log ≡ None → writer.new ≡ writer.old }
+{
+    let bare = ClusterKey::bare();
+    if !is_asked {
+        return serve_port(node, port, outside, turns, until, &bare, log, writer);
+    }
+    let counted = CountPort::new(port, &bare, member.me, member.members, outside);
+    serve_port(node, counted, outside, turns, until, &bare, log, writer)
+}
+
+/// Serves a node by names over a port, which has received and offered nothing, with a log if there is one.
+///
+/// Between the node's port by names and `port` stand two others: one tells the node's floors to the other members, and
+/// the one below it joins the datagrams to a member into one. `is_asked` says whether operators may ask.
+///
+/// # Errors
+/// - Returns `Memory` if the allocator refuses the memory for the floors that the port tells. The node is as it was.
+/// - Returns the errors of [`serve_asked`].
+fn serve_named<S: FloorStore, P: Gatekeeper + Drop, N: TimeSource, W: Write, U: Attend<S>>(
+    alloc: Global,
+    node: &mut Node<'_, S>,
+    port: P,
+    naming: &Naming,
+    is_asked: bool,
+    outside: &N,
+    turns: u64,
+    until: &mut Attended<U>,
+    log: Option<ServeLog>,
+    writer: &mut W,
+) -> Result<Served, Fault>
+    requires turns { turns < 2 ^ 54 }
+    requires fresh { IfSome (P.events port) (λ events. events ≡ []) }
+    requires known { IsSome (P.setup port) }
+    ensures turns { ((result ≡ Err Fault.Memory) × (node.new ≡ node.old))
+        ⊎ ((end : Result Served ServeFault) × (last : P)
+        × ServesNamed S.held U.acts node.old node.new (translator_of naming.now) (packer_of naming.now) (P.events last)
+        turns (U.answers until.new.attendant) end × (P.setup last ≡ P.setup port) × (result ≡ serve_end end)) }
+    ensures unlogged { log ≡ None → writer.new ≡ writer.old }
+{
+    let (key, names, member) = (&naming.key, &naming.names, naming.node);
+    let joining = BundlePort::new(port);
+    let Ok(telling) = FloorPort::new(alloc, joining, key, names, member, &naming.floors) else {
+        return Err(Fault::Memory);
+    };
+    let known = member.known;
+    let named = NamedPort::new(telling, key, names, member.me, member.boot, known);
+    serve_asked(
+        node, named, member, is_asked, outside, turns, until, log, writer,
+    )
+}
+
+/// Serves a node by names over a socket, for the clients that `front` lets through, with a log if there is one. Without
+/// a log it writes nothing.
+///
+/// # Errors
+/// Returns the errors of [`serve_named`].
+fn serve_front<S: FloorStore, N: TimeSource, W: Write, U: Attend<S>>(
+    alloc: Global,
+    node: &mut Node<'_, S>,
+    port: UdpPort<&N>,
+    naming: &Naming,
+    outside: &N,
+    front: Front,
+    turns: u64,
+    until: &mut Attended<U>,
+    log: Option<ServeLog>,
+    writer: &mut W,
+) -> Result<Served, Fault>
+    requires turns { turns < 2 ^ 54 }
+    requires calls { port.calls.made ≡ [] }
+    requires plain { (port.skips_answers ≡ true) × (port.takes_loopback_alone ≡ false) }
+    ensures turns { ((result ≡ Err Fault.Memory) × (node.new ≡ node.old))
+        ⊎ IsServedNamed S.held U.acts node.old node.new (setup_behind port.entry.members.items front)
+        (translator_of naming.now) (packer_of naming.now) turns (U.answers until.new.attendant) result }
+    ensures unlogged { log ≡ None → writer.new ≡ writer.old }
+{
+    match front {
+        Front::Anybody => serve_named(
+            alloc, node, port, naming, false, outside, turns, until, log, writer,
+        ),
+        Front::ThisMachine => {
+            let port = port.taking_loopback_alone();
+            serve_named(
+                alloc, node, port, naming, false, outside, turns, until, log, writer,
+            )
+        }
+        Front::Gate(gate) => {
+            let port = SealedPort::new(port.under_gate(), SystemClock::new(outside), gate);
+            serve_named(
+                alloc, node, port, naming, true, outside, turns, until, log, writer,
+            )
+        }
+    }
+}
+
+/// Serves a node by names over a socket, as [`serve_front`] does, with a desk at which operators ask. The desk knows
+/// the tokens of `book`, and tells them what stays of the node and what `told` tells. Returns `until` too. `socket`
+/// keeps which members went back, and in which boots they were heard.
+///
+/// # Errors
+/// Returns the errors of [`serve_front`].
+fn serve_desk<S: FloorStore, T: Told<S> + Drop, N: TimeSource, W: Write, U: Stop + Drop>(
+    alloc: Global,
+    node: &mut Node<'_, S>,
+    port: UdpPort<&N>,
+    naming: &Naming,
+    outside: &N,
+    front: Front,
+    turns: u64,
+    standing: Standing,
+    book: &Book,
+    told: T,
+    socket: &mut KeptSocket,
+    until: U,
+    log: Option<ServeLog>,
+    writer: &mut W,
+) -> Result<(Served, U), Fault>
+    requires turns { turns < 2 ^ 54 }
+    requires calls { port.calls.made ≡ [] }
+    requires plain { (port.skips_answers ≡ true) × (port.takes_loopback_alone ≡ false) }
+    ensures served { IfOk result (λ served. IsServedNamed S.held (operator_acts S.held) node.old node.new
+        (setup_behind port.entry.members.items front) (translator_of naming.now) (packer_of naming.now) turns
+        (DeskAnswers (U.answers served.1)) (Ok served.0)) }
+    ensures fault { IfErr result (λ fault. ((fault ≡ Fault.Memory) × (node.new ≡ node.old))
+        ⊎ IsServedNamed S.held (operator_acts S.held) node.old node.new (setup_behind port.entry.members.items front)
+        (translator_of naming.now) (packer_of naming.now) turns (DeskAnswers unasked) (Err fault)) }
+    ensures unlogged { log ≡ None → writer.new ≡ writer.old }
+{
+    let mut until = Attended::new(Desk::new(alloc, outside, standing, book, told, until));
+    match serve_front(
+        alloc, node, port, naming, outside, front, turns, &mut until, log, writer,
+    ) {
+        Ok(served) => {
+            let gone_back = until.gone_back;
+            socket.gone_back = gone_back;
+            let heard = until.heard;
+            socket.heard = heard;
+            Ok((served, until.attendant.into_until()))
+        }
+        Err(fault) => Err(fault),
+    }
+}
+
+/// Returns the content of the log's line of a store's rows, or None if there is no log.
+///
+/// The store was opened for the tokens of `book`, whose print is `print`.
+fn roster_of(
+    alloc: Global,
+    is_logged: bool,
+    counts: RowCounts,
+    book: &Book,
+    key: &ClusterKey,
+) -> Result<Option<Roster>, Fault>
+    ensures roster { IfOk result (λ roster.
+        roster ≡ (if is_logged then Some (roster_at counts book.now key.now) else None)) }
+    ensures fault { IfErr result (λ fault. fault ≡ Fault.Memory) }
+{
+    if !is_logged {
+        return Ok(None);
+    }
+    // At most 10,000.
+    let tokens = book.len() as u32;
+    let Ok(print) = book_print(alloc, key, book) else {
+        return Err(Fault::Memory);
+    };
+    Ok(Some(Roster {
+        rows: counts.all,
+        enrolled: counts.enrolled,
+        retired: counts.all.saturating_sub(tokens),
+        book: print,
+    }))
+}
+
+/// Returns what stays of a node that begins at `moment`, whose log has the content `start` in its first line.
+fn standing_of(
+    alloc: Global,
+    naming: &Naming,
+    place: Place,
+    moment: u64,
+    start: Start,
+    book: &Book,
+) -> Result<Standing, Fault>
+    ensures standing { IfOk result (λ standing. (standing.place ≡ place) × (standing.started ≡ moment)
+        × (standing.fingerprint ≡ start.fingerprint)
+        × (standing.book ≡ Some (book_print_of naming.now.key book.now))) }
+    ensures fault { IfErr result (λ fault. fault ≡ Fault.Memory) }
+{
+    let Ok(print) = book_print(alloc, &naming.key, book) else {
+        return Err(Fault::Memory);
+    };
+    let version = version_of(VERSION.as_bytes());
+    let fingerprint = start.fingerprint;
+    let book = Some(print);
+    Ok(Standing {
+        place,
+        version,
+        started: moment,
+        fingerprint,
+        book,
+    })
+}
+
+/// Returns the names of the tokens of a users file, with their index.
+fn indexed_names(alloc: Global, named: &NamedUsers) -> Result<Names, Fault>
+    ensures names { IfOk result (λ names. names ≡ map (λ entry. entry.name) named.now.entries.items) }
+    ensures fault { IfErr result (λ fault. fault ≡ Fault.Memory) }
+{
+    // At most 10,000.
+    let _tokens = named.users.book.len();
+    let Ok(names) = names_in(alloc, &named.entries) else {
+        return Err(Fault::Memory);
+    };
+    match Names::new(alloc, names) {
+        Ok(names) => Ok(names),
+        Err(_) => Err(Fault::Memory),
+    }
+}
+
+/// Writes the log's lines of the rows of a users file that are left out, if there are such rows and a log. A failed
+/// write is ignored.
+fn tell_left<W: Write>(
+    alloc: Global,
+    is_logged: bool,
+    text: &[u8],
+    kept: Option<&[u8]>,
+    writer: &mut W,
+)
+    ensures unlogged { is_logged ≡ false → writer.new ≡ writer.old }
+{
+    let Some(kept) = kept else {
+        return;
+    };
+    if is_logged {
+        let _written = write_left(alloc, writer, text, kept);
+        let _flushed = writer.flush();
+    }
+}
+
+/// Returns what the ports of a node by names translate and tell by in a new boot, over a store that was opened for the
+/// tokens of `named`, and the content of its log's first line.
+///
+/// # Errors
+/// - Returns `Memory` if the allocator refuses the memory.
+/// - Returns `Store` with the fault that broke the store.
+fn naming_of<S: FloorStore>(
+    alloc: Global,
+    named: &NamedUsers,
+    store: &S,
+    serving: &Serving<'_>,
+    socket: &KeptSocket,
+) -> Result<(Naming, Start), Fault>
+    requires { length (S.held store.now).content.rows ≡ length named.now.users.book }
+    ensures naming { IfOk result (λ made. IsNamingOf serving.now named.now.users.book
+        (map (λ entry. entry.name) named.now.entries.items) (S.held store.now) made.0) }
+    ensures heard { IfOk result (λ made. (made.0.node.gone_back ≡ socket.now.gone_back)
+        × (made.0.node.known ≡ socket.now.heard)) }
+    ensures fault { IfErr result IsOpenFault }
+{
+    let (book, place) = (&named.users.book, serving.place);
+    let key = tag_key(alloc, serving.key.again(), book)?;
+    let names = indexed_names(alloc, named)?;
+    let address = serving.members[usize::from(place.me()) - 1];
+    let boot = match store.boot() {
+        Ok(boot) => boot,
+        Err(fault) => return Err(Fault::Store(fault)),
+    };
+    let start = start_of(place, address, boot, book, &key);
+    let floors = floors_of(alloc, book, store)?;
+    let node = Membership {
+        me: place.me(),
+        boot: start.boot,
+        members: place.n(),
+        gone_back: socket.gone_back,
+        known: socket.heard,
+    };
+    let naming = Naming {
+        key,
+        names,
+        node,
+        floors,
+    };
+    Ok((naming, start))
+}
+
+/// Returns the log of a node, or None if there is none, and what stays of the node, which begins at `moment`.
+///
+/// Its store was opened for the tokens of `book`, and has `counts` rows.
+fn log_and_standing(
+    alloc: Global,
+    naming: &Naming,
+    place: Place,
+    moment: u64,
+    start: Start,
+    counts: RowCounts,
+    book: &Book,
+    is_logged: bool,
+) -> Result<(Option<ServeLog>, Standing), Fault>
+    ensures unlogged { IfOk result (λ made. is_logged ≡ false → made.0 ≡ None) }
+    ensures fault { IfErr result (λ fault. fault ≡ Fault.Memory) }
+{
+    let roster = roster_of(alloc, is_logged, counts, book, &naming.key)?;
+    let log = log_of(is_logged, start, roster, place);
+    let standing = standing_of(alloc, naming, place, moment, start, book)?;
+    Ok((log, standing))
+}
+
+/// Serves a node by names, which was opened for the tokens of `book`, over a UDP socket at its address. The socket is
+/// bound if `socket` isn't yet. Returns `until` too.
+///
+/// # Errors
+/// - Returns `Socket` if the socket cannot be bound.
+/// - Returns the errors of [`front_of`] and [`serve_desk`].
+fn serve_opened<S: FloorStore, T: Told<S> + Drop, N: Net + TimeSource, W: Write, U: Stop + Drop>(
+    alloc: Global,
+    node: &mut Node<'_, S>,
+    outside: &N,
+    moment: u64,
+    naming: &Naming,
+    start: Start,
+    counts: RowCounts,
+    book: &Book,
+    serving: Serving<'_>,
+    told: T,
+    socket: &mut KeptSocket,
+    until: U,
+    writer: &mut W,
+) -> Result<(Served, U), Fault>
+    ensures served { IfOk result (λ served. IsServedNamed S.held (operator_acts S.held) node.old node.new
+        (setup_for serving.entry.place.me serving.entry.members.items serving.entry.lines) (translator_of naming.now)
+        (packer_of naming.now) serving.entry.turns (DeskAnswers (U.answers served.1)) (Ok served.0)) }
+    ensures fault { IfErr result (λ fault. IsEarlyFault fault ⊎ IsServedNamed S.held (operator_acts S.held) node.old
+        node.new (setup_for serving.entry.place.me serving.entry.members.items serving.entry.lines)
+        (translator_of naming.now) (packer_of naming.now) serving.entry.turns (DeskAnswers unasked) (Err fault)) }
+    ensures unlogged { serving.entry.is_logged ≡ false → writer.new ≡ writer.old }
+{
+    let Serving {
+        place,
+        members,
+        turns,
+        is_logged,
+        lines,
+        ..
+    } = serving;
+    let address = members[usize::from(place.me()) - 1];
+    let port = UdpPort::new(socket.handle(outside, address)?, members, outside);
+    let front = front_of(alloc, place.me(), lines, outside)?;
+    let (log, standing) = log_and_standing(
+        alloc, naming, place, moment, start, counts, book, is_logged,
+    )?;
+    serve_desk(
+        alloc, node, port, naming, outside, front, turns, standing, book, told, socket, until, log,
+        writer,
+    )
+}
+
+/// Opens a node by names over a store in a new boot, and serves it as [`serve_opened`] does. The store was opened for
+/// the tokens of `named`, and has `counts` rows.
+///
+/// # Errors
+/// - Returns `Store` with the fault that broke the store, or `Memory` if the allocator refuses the memory.
+/// - Returns the errors of [`serve_opened`].
+fn serve_over<
+    S: FloorStore + Drop,
+    T: Told<S> + Drop,
+    N: Net + TimeSource,
+    W: Write,
+    U: Stop + Drop,
+>(
+    alloc: Global,
+    outside: &N,
+    moment: u64,
+    named: &NamedUsers,
+    counts: RowCounts,
+    store: S,
+    serving: Serving<'_>,
+    told: T,
+    socket: &mut KeptSocket,
+    until: U,
+    writer: &mut W,
+) -> Result<(Served, U), Fault>
+    requires { length (S.held store).content.rows ≡ length named.now.users.book }
+    ensures served { IfOk result (λ served. IsServedOver S.held serving.entry named.now.users.book
+        (map (λ entry. entry.name) named.now.entries.items) store (DeskAnswers (U.answers served.1)) (Ok served.0)) }
+    ensures fault { IfErr result (λ fault. IsEarlyFault fault ⊎ IsServedOver S.held serving.entry named.now.users.book
+        (map (λ entry. entry.name) named.now.entries.items) store (DeskAnswers unasked) (Err fault)) }
+    ensures unlogged { serving.entry.is_logged ≡ false → writer.new ≡ writer.old }
+{
+    let book = &named.users.book;
+    let (naming, start) = naming_of(alloc, named, &store, &serving, socket)?;
+    let bare = ClusterKey::bare();
+    let mut node = open_node(alloc, book, serving.settings, serving.place, &bare, store)?;
+    serve_opened(
+        alloc, &mut node, outside, moment, &naming, start, counts, book, serving, told, socket,
+        until, writer,
+    )
+}
+
+/// Opens a node over its store by names in a new boot, binds a UDP socket to its address, and serves it for the given
+/// turns, or until `until` ends them. Returns `until` too.
+///
+/// The socket is bound if `socket` isn't yet, and stays bound. Nothing is taken from a member that went back, as long
+/// as `socket` is kept.
+///
+/// The store is opened as [`open_named_store`] does for the users file with this text. If it has no room for the new
+/// rows, the node is served for the other ones, and the log has a line of each row that is left out before its first
+/// one. The node speaks to the other members by the names of its tokens,
+/// under the key of `serving`. In the process, it speaks to its port under the bare key. It tells the other members the
+/// floors of its tokens in bulk, and takes theirs ([`floor_port`]). The datagrams to a member between two waits are
+/// joined ([`bundle_port`]).
+/// A log has a line of the store's rows after its first one. All else is as in
+/// [`serve_store`](node_serving::serve_store).
+///
+/// # Errors
+/// - Returns the errors of [`open_named_store`].
+/// - Returns `Command` with the errors of [`open_node`].
+/// - Returns `Command(Memory)` if the allocator refuses the memory for the floors, or for the log's line of rows.
+/// - Returns `Command(Store)` with the fault that broke the store.
+/// - Returns `Command(Socket)` if the socket cannot be bound.
+/// - Returns `Command` with the errors of [`front_of`].
+/// - Returns `Command` with the errors of [`serve_port`].
+pub fn serve_named_store<
+    S: Alter + Drop,
+    D: Database<S>,
+    N: Net + TimeSource,
+    W: Write,
+    U: Stop + Drop,
+>(
+    alloc: Global,
+    outside: &N,
+    text: &[u8],
+    moment: u64,
+    serving: Serving<'_>,
+    cluster: &NamedCluster,
+    database: D,
+    socket: &mut KeptSocket,
+    until: U,
+    writer: &mut W,
+) -> Result<(Served, U), RosterFault>
+    requires { IsMoment moment }
+    ensures served { IfOk result (λ served. HasServedRows S.Store D.finds cluster.now moment serving.entry
+        (U.answers served.1) (Ok served.0) text.now) }
+    ensures fault { IfErr result (λ fault. EndsServingRows S.Store D.finds cluster.now moment serving.entry fault
+        text.now) }
+    ensures unlogged { serving.entry.is_logged ≡ false → writer.new ≡ writer.old }
+{
+    let (node, settings) = (serving.place.me(), serving.settings);
+    let own_key = serving.key.again();
+    let (named, store, counts, rows, kept) = open_named_store(
+        alloc, text, settings, moment, node, cluster, database,
+    )?;
+    tell_left(alloc, serving.is_logged, text, kept.as_deref(), writer);
+    let told = NamedRows {
+        node,
+        book: &named.users.book,
+        roster: rows,
+        own: &cluster.bond,
+        key: own_key.own().as_slice(),
+    };
+    let served = serve_over(
+        alloc, outside, moment, &named, counts, store, serving, told, socket, until, writer,
+    )?;
+    Ok(served)
+}

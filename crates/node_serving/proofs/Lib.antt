@@ -1,0 +1,5 @@
+mod EndLemmas
+mod ServedLemmas
+pub mod StretchLemmas
+mod KeyLemmas
+mod BrokenLemmas

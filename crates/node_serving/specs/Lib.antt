@@ -1,0 +1,11 @@
+pub mod Broken
+pub mod Front
+pub mod Gate
+pub mod Log
+pub mod NodeKey
+pub mod Served
+pub mod Serving
+pub mod Setup
+pub mod SetupExamples
+pub mod StretchExamples
+pub mod Stretches

@@ -1,0 +1,429 @@
+//! The command `serve`: runs a node over a store and a socket.
+
+ghost use Rattle.std.specs.Prelude.{◌≡◌, ◌<◌, ◌^◌, [], None, false, true, length, Result, Ok, IfErr, IfOk, IfSome, IsSome, OnOk};
+ghost use Rattle.std.specs.Io.KnownBytes.{Appends};
+ghost use Rattle.oath_node.specs.TurnServing.{Serves};
+ghost use Rattle.oath_node.specs.declared.serve_fault.ServeFault.{ServeFault};
+ghost use Rattle.oath_node.specs.declared.turns.Served.{Served};
+ghost use Rattle.gatekeeping.specs.Members.{nobody_heard};
+ghost use Rattle.gatekeeping.specs.Members.{nobody};
+ghost use Rattle.oath_node.specs.Calls.{IsOpened};
+ghost use Rattle.node_serving.specs.Served.{EndsServing, HasServed, IsServed};
+ghost use Rattle.oathd_database.specs.Fault.{IsOpenFault, serve_end};
+ghost use Rattle.floor_store.specs.Range.{IsCount};
+ghost use Rattle.node_serving.specs.Log.{first_lines, start_at};
+ghost use Rattle.node_serving.specs.Setup.{setup_behind};
+ghost use Rattle.node_serving.specs.Stretches.{ServesIn, counts_after};
+
+use crate::attend::{Attend, Attended};
+use crate::gate::{Front, front_of};
+use crate::node_key::tag_key;
+use crate::serving::Serving;
+use arrayvec::ArrayVec;
+use cluster_file::fingerprint;
+use datagram_port::Clock;
+use floor_store::FloorStore;
+use gatekeeping::{Gatekeeper, MAX_OTHERS, PLACES};
+use node_log::{LogPort, Member, Roster, Start, write_roster, write_start};
+use oath_node::{Never, Node, ServeFault, Served, run_turns_until};
+use oathd_database::{Database, Fault, open_store};
+use otp_core::Settings;
+use sealed_port::SealedPort;
+use sqlite::Alter;
+use std::alloc::Global;
+use std::io::{self, Read, Write};
+use std::net::{Net, SocketAddr, SocketAddrV4, UdpSocket};
+use std::time::{Clock as TimeSource, Duration};
+use token_file::Book;
+use udp_port::{SystemClock, UdpPort, client_number};
+use vote_core::Place;
+use vote_wire::ClusterKey;
+
+/// The number of milliseconds for which a node waits for a datagram before a tick.
+const WAIT_MILLIS: u64 = 200;
+
+/// Opens a node over `store`, in a new boot: the last step before its socket is bound.
+///
+/// # Errors
+/// - Returns `Memory` if the allocator refuses the memory. The store is unchanged.
+/// - Returns `Store` if the store fails to raise the boot.
+pub fn open_node<'b, S: FloorStore + Drop>(
+    alloc: Global,
+    book: &'b Book,
+    settings: Settings,
+    place: Place,
+    key: &'b ClusterKey,
+    store: S,
+) -> Result<Node<'b, S>, Fault>
+    requires { length (S.held store).content.rows ≡ length book.now }
+    ensures opened { IfOk result (IsOpened S.held store) }
+    ensures book { IfOk result (λ node. node.book ≡ book.now) }
+    ensures limits { IfOk result (λ node. node.limits ≡ settings) }
+    ensures key { IfOk result (λ node. node.key ≡ key.now) }
+    ensures place { IfOk result (λ node. node.voter.place ≡ place) }
+    ensures fault { IfErr result IsOpenFault }
+{
+    match Node::open(alloc, book, settings, place, key, store) {
+        Ok(node) => Ok(node),
+        Err((_, fault)) => Err(Fault::from(fault)),
+    }
+}
+
+/// Returns the counts of a run of turns together with those of the runs before it. None goes beyond `u64::MAX`.
+fn counts_after(before: Option<Served>, served: Served) -> Served
+    ensures { result ≡ counts_after before served }
+{
+    match before {
+        Some(counts) => Served {
+            received: counts.received.saturating_add(served.received),
+            replied: counts.replied.saturating_add(served.replied),
+        },
+        None => served,
+    }
+}
+
+/// Serves a node over a port for `turns` receives, or until `until` ends them. Where `until` acts on the node then, the
+/// turns that are left are served after that.
+///
+/// # Errors
+/// - Returns `Store` if the node's store fails, and `Store(Spent)` if no proposal number of this boot is left.
+/// - Returns `Socket` at the 16th consecutive fault of the port.
+/// - Returns `NoClock` if the clock tells no time.
+pub fn serve_node<S: FloorStore, P: Gatekeeper, C: Clock, U: Attend<S>>(
+    node: &mut Node<'_, S>,
+    port: &mut P,
+    clock: &mut C,
+    turns: u64,
+    until: &mut Attended<U>,
+) -> Result<Served, Fault>
+    requires { turns < 2 ^ 54 }
+    ensures turns { (end : Result Served ServeFault)
+        × ServesIn S.held U.acts node.old node.new (P.events port.old) (P.events port.new)
+        (C.moments clock.old) (C.moments clock.new) turns (U.answers until.new.attendant) end
+        × (result ≡ serve_end end) }
+    ensures stays { P.setup port.new ≡ P.setup port.old }
+{
+    let mut left = turns;
+    let mut before = None;
+    while left > 0 {
+        let served = run_turns_until(node, port, clock, left, until)?;
+        let all = counts_after(before, served);
+        if until.left == 0 {
+            return Ok(all);
+        }
+        match until.attendant.act(node, port) {
+            Ok(true) => before = Some(all),
+            Ok(false) => return Ok(all),
+            Err(fault) => return Err(Fault::from(ServeFault::from(fault))),
+        }
+        left = until.left;
+    }
+    let served = run_turns_until(node, port, clock, 0, until)?;
+    Ok(counts_after(before, served))
+}
+
+/// Binds a socket to an address of this machine. Its receives wait at most 200 milliseconds.
+///
+/// # Errors
+/// Returns `Socket` if the socket cannot be bound, or its waits cannot be limited.
+pub fn socket_at<N: Net>(net: &N, address: SocketAddrV4) -> Result<UdpSocket, Fault>
+    ensures { IfErr result (λ fault. fault ≡ Fault.Socket) }
+{
+    let Ok(socket) = UdpSocket::bind(net, SocketAddr::V4(address)) else {
+        return Err(Fault::Socket);
+    };
+    match socket.set_read_timeout(Some(Duration::from_millis(WAIT_MILLIS))) {
+        Ok(()) => Ok(socket),
+        Err(_) => Err(Fault::Socket),
+    }
+}
+
+/// A UDP socket that is bound once, and kept while one node after another is served over it. With it is kept of the
+/// members, from member 0 to 9, which went back meanwhile, and the greatest boot in which each was heard, or 0.
+#[derive(Drop)]
+pub struct KeptSocket {
+    socket: Option<UdpSocket>,
+    pub gone_back: [bool; PLACES],
+    pub heard: [u64; PLACES],
+}
+
+impl KeptSocket {
+    /// Returns a socket that is not bound yet. No member went back, and none was heard.
+    pub fn new() -> Self
+        ensures { (result.gone_back ≡ nobody) × (result.heard ≡ nobody_heard) }
+    {
+        KeptSocket {
+            socket: None,
+            gone_back: [false; PLACES],
+            heard: [0; PLACES],
+        }
+    }
+
+    /// Returns a handle of the socket in blocking mode. Binds it first to `address`, as [`socket_at`] does, if it isn't
+    /// bound yet. What came meanwhile waits in it.
+    ///
+    /// # Errors
+    /// - Returns the errors of [`socket_at`].
+    /// - Returns `Socket` if there is no other handle, or its mode cannot be set.
+    pub fn handle<N: Net>(&mut self, net: &N, address: SocketAddrV4) -> Result<UdpSocket, Fault>
+        ensures fault { IfErr result (λ fault. fault ≡ Fault.Socket) }
+        ensures same { (self.new.gone_back ≡ self.old.gone_back) × (self.new.heard ≡ self.old.heard) }
+    {
+        let socket = match self.socket.take() {
+            Some(socket) => socket,
+            None => socket_at(net, address)?,
+        };
+        let handle = other_handle(&socket);
+        self.socket = Some(socket);
+        handle
+    }
+}
+
+/// Returns another handle of a socket, in blocking mode.
+fn other_handle(socket: &UdpSocket) -> Result<UdpSocket, Fault>
+    ensures { IfErr result (λ fault. fault ≡ Fault.Socket) }
+{
+    if socket.set_nonblocking(false).is_err() {
+        return Err(Fault::Socket);
+    }
+    match socket.try_clone() {
+        Ok(handle) => Ok(handle),
+        Err(_) => Err(Fault::Socket),
+    }
+}
+
+/// The log of a served node.
+#[derive(Drop)]
+pub struct ServeLog {
+    /// The content of its first line.
+    pub start: Start,
+    /// The content of the line after it, for a store by names.
+    pub roster: Option<Roster>,
+    /// The other members of the node's cluster.
+    pub members: ArrayVec<Member, MAX_OTHERS>,
+}
+
+/// Returns the other members, whose silence the log reports.
+fn other_members(place: Place) -> ArrayVec<Member, MAX_OTHERS> {
+    let mut others = ArrayVec::new();
+    for number in 1..=place.n() {
+        if number != place.me() {
+            let _full = others.try_push(Member::new(number));
+        }
+    }
+    others
+}
+
+/// Writes the first lines of a log.
+fn write_first_lines<W: Write>(writer: &mut W, log: &ServeLog) -> io::Result<()>
+    ensures { OnOk result (Appends (W.contents writer.old) (W.contents writer.new) (first_lines log.now)) }
+{
+    write_start(writer, log.start)?;
+    match log.roster {
+        Some(roster) => write_roster(writer, roster),
+        None => Ok(()),
+    }
+}
+
+/// Serves a node over a port, as [`serve_node`] does, with a log. A member is heard under `key`. A failed write ends
+/// the log, but not the node.
+fn serve_logged<S: FloorStore, P: Gatekeeper + Drop, N: TimeSource, W: Write, U: Attend<S>>(
+    node: &mut Node<'_, S>,
+    port: P,
+    outside: &N,
+    turns: u64,
+    until: &mut Attended<U>,
+    key: &ClusterKey,
+    log: ServeLog,
+    writer: &mut W,
+) -> Result<Served, Fault>
+    requires turns { turns < 2 ^ 54 }
+    requires fresh { IfSome (P.events port) (λ entries. entries ≡ []) }
+    ensures turns { (end : Result Served ServeFault) × (last : P)
+        × ServesIn S.held U.acts node.old node.new (P.events port) (P.events last) None None turns
+        (U.answers until.new.attendant) end × (P.setup last ≡ P.setup port) × (result ≡ serve_end end) }
+{
+    let _written = write_first_lines(writer, &log);
+    let mut clock = SystemClock::new(outside);
+    let mut port = LogPort::new(port, writer, key, log.members);
+    let served = serve_node(node, &mut port, &mut clock, turns, until)?;
+    port.flush();
+    port.end(served.received, served.replied);
+    Ok(served)
+}
+
+/// Serves a node over a port, as [`serve_node`] does, with a log if there is one. Without a log it writes nothing.
+///
+/// `key` is the key of the node: the log tells who is heard under it.
+///
+/// # Errors
+/// Returns the errors of [`serve_node`].
+pub fn serve_port<S: FloorStore, P: Gatekeeper + Drop, N: TimeSource, W: Write, U: Attend<S>>(
+    node: &mut Node<'_, S>,
+    port: P,
+    outside: &N,
+    turns: u64,
+    until: &mut Attended<U>,
+    key: &ClusterKey,
+    log: Option<ServeLog>,
+    writer: &mut W,
+) -> Result<Served, Fault>
+    requires turns { turns < 2 ^ 54 }
+    requires fresh { IfSome (P.events port) (λ entries. entries ≡ []) }
+    ensures turns { (end : Result Served ServeFault) × (last : P)
+        × ServesIn S.held U.acts node.old node.new (P.events port) (P.events last) None None turns
+        (U.answers until.new.attendant) end × (P.setup last ≡ P.setup port) × (result ≡ serve_end end) }
+    ensures unlogged { log ≡ None → writer.new ≡ writer.old }
+{
+    match log {
+        Some(log) => serve_logged(node, port, outside, turns, until, key, log, writer),
+        None => {
+            let mut port = port;
+            let mut clock = SystemClock::new(outside);
+            let served = serve_node(node, &mut port, &mut clock, turns, until)?;
+            port.flush();
+            Ok(served)
+        }
+    }
+}
+
+/// Serves a node over a port for all turns, as [`serve_port`] does.
+fn serve_turns<S: FloorStore, P: Gatekeeper + Drop, N: TimeSource, W: Write>(
+    node: &mut Node<'_, S>,
+    port: P,
+    outside: &N,
+    turns: u64,
+    key: &ClusterKey,
+    log: Option<ServeLog>,
+    writer: &mut W,
+) -> Result<Served, Fault>
+    requires turns { turns < 2 ^ 54 }
+    requires fresh { IfSome (P.events port) (λ entries. entries ≡ []) }
+    ensures turns { (end : Result Served ServeFault) × (last : P)
+        × Serves S.held node.old node.new (P.events port) (P.events last) None None turns end
+        × (P.setup last ≡ P.setup port) × (result ≡ serve_end end) }
+    ensures unlogged { log ≡ None → writer.new ≡ writer.old }
+{
+    let mut until = Attended::new(Never);
+    serve_port(node, port, outside, turns, &mut until, key, log, writer)
+}
+
+/// Serves a node over a socket, as [`serve_node`] does, for the clients that `front` lets through, with a log if there
+/// is one. Without a log it writes nothing.
+fn serve_front<S: FloorStore, N: TimeSource, W: Write>(
+    node: &mut Node<'_, S>,
+    port: UdpPort<&N>,
+    outside: &N,
+    front: Front,
+    turns: u64,
+    key: &ClusterKey,
+    log: Option<ServeLog>,
+    writer: &mut W,
+) -> Result<Served, Fault>
+    requires turns { turns < 2 ^ 54 }
+    requires calls { port.calls.made ≡ [] }
+    requires plain { (port.skips_answers ≡ true) × (port.takes_loopback_alone ≡ false) }
+    ensures turns { IsServed S.held node.old node.new (setup_behind port.entry.members.items front) turns result }
+    ensures unlogged { log ≡ None → writer.new ≡ writer.old }
+{
+    match front {
+        Front::Anybody => serve_turns(node, port, outside, turns, key, log, writer),
+        Front::ThisMachine => {
+            let port = port.taking_loopback_alone();
+            serve_turns(node, port, outside, turns, key, log, writer)
+        }
+        Front::Gate(gate) => {
+            let port = SealedPort::new(port.under_gate(), SystemClock::new(outside), gate);
+            serve_turns(node, port, outside, turns, key, log, writer)
+        }
+    }
+}
+
+/// Returns the content of the first line of the log of the node at `place`, whose store has the boot `boot`.
+pub fn start_of(
+    place: Place,
+    address: SocketAddrV4,
+    boot: u64,
+    book: &Book,
+    key: &ClusterKey,
+) -> Start
+    requires { IsCount boot }
+    ensures { result ≡ start_at place address boot book.now key.now }
+{
+    Start {
+        node: place.me(),
+        members: place.n(),
+        address: client_number(address),
+        boot: boot + 1,
+        tokens: book.len(),
+        fingerprint: fingerprint(key),
+    }
+}
+
+/// Returns the log of a node with the content of its first lines, or None if `is_logged` is false.
+pub fn log_of(
+    is_logged: bool,
+    start: Start,
+    roster: Option<Roster>,
+    place: Place,
+) -> Option<ServeLog>
+    ensures none { is_logged ≡ false → result ≡ None }
+    ensures lines { is_logged ≡ true
+        → IfSome result (λ log. (log.start ≡ start) × (log.roster ≡ roster)) × IsSome result }
+{
+    if !is_logged {
+        return None;
+    }
+    Some(ServeLog {
+        start,
+        roster,
+        members: other_members(place),
+    })
+}
+
+/// Opens a node over its store in a new boot, binds a UDP socket to its address, and serves it for the given turns.
+///
+/// The store has the tokens of the users file. A turn is one receive of at most 200 milliseconds. A datagram from a
+/// member's address is that member's; a datagram from any other address is a client's. `serving` says which lines of
+/// clients the node takes. With a log, its lines go to the writer. A failed write ends the log, but not the node.
+/// Without a log nothing is written.
+///
+/// # Errors
+/// - Returns the errors of [`open_store`].
+/// - Returns the errors of [`open_node`].
+/// - Returns `Socket` if the socket cannot be bound.
+/// - Returns the errors of [`front_of`].
+/// - Returns the errors of [`serve_node`].
+pub fn serve_store<R: Read + Drop, S: Alter + Drop, D: Database<S>, N: Net + TimeSource, W: Write>(
+    alloc: Global,
+    outside: &N,
+    users: R,
+    serving: Serving<'_>,
+    database: D,
+    writer: &mut W,
+) -> Result<Served, Fault>
+    ensures served { IfOk result (λ served. IfSome (R.remaining users)
+        (HasServed S.Store D.finds serving.entry (Ok served))) }
+    ensures fault { IfErr result (λ fault. IfSome (R.remaining users)
+        (EndsServing S.Store D.finds serving.entry fault)) }
+    ensures unlogged { serving.entry.is_logged ≡ false → writer.new ≡ writer.old }
+{
+    let Serving {
+        settings,
+        place,
+        members,
+        key,
+        turns,
+        is_logged,
+        lines,
+    } = serving;
+    let (users, store) = open_store(alloc, users, settings, Some(place.me()), database)?;
+    let key = tag_key(alloc, key, &users.book)?;
+    let address = members[usize::from(place.me()) - 1];
+    let start = start_of(place, address, store.boot()?, &users.book, &key);
+    let mut node = open_node(alloc, &users.book, settings, place, &key, store)?;
+    let port = UdpPort::new(socket_at(outside, address)?, members, outside);
+    let front = front_of(alloc, place.me(), lines, outside)?;
+    let log = log_of(is_logged, start, None, place);
+    serve_front(&mut node, port, outside, front, turns, &key, log, writer)
+}
