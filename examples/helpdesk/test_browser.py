@@ -163,6 +163,7 @@ class Test:
         browser.picture("login")
         browser.expect_narrow("login")
         browser.fill("Name", "sam")
+        browser.fill("Password", self.sam.word)
         browser.fill("Code", "000000")
         browser.press("Log in")
         expect("a wrong code", "That was not right" in browser.text("[role=alert]"), True)
