@@ -2,9 +2,10 @@
 
    gcc -O2 bench/looks.c -o looks && ./looks FOLDER
 
-   Rounds of 300 commits each take turns between no look, a look at the database and the -wal by their paths, a look at their
-   folder, and one at the folder as it was opened before. For each it prints the median time of a commit of the median round, that of the least and of the greatest one, and the
-   mean time of the look itself, in microseconds. FOLDER is on the disk that counts; its files go at the end. */
+   Rounds of 300 commits each take turns between no look, a look at the database and the -wal by their paths, a look
+   at their folder, and one at the folder as it was opened before. For each it prints the median time of a commit of
+   the median round, that of the least and of the greatest one, and the mean time of the look itself, in
+   microseconds. FOLDER is on the disk that counts; its files go at the end. */
 #define _GNU_SOURCE
 #include <fcntl.h>
 #include <stdio.h>

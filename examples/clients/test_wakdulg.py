@@ -316,7 +316,8 @@ class Tests(unittest.TestCase):
             # Whoever answers again is forgotten, and so is what no process can have written.
             each().silent.note(silent.address, False)
             self.assertEqual(each().order(user)[0], silent.address)
-            for text in "", "[", "[1]", '[["127.0.0.1", 1]]', '{"a": 1}', '[["127.0.0.1", %d, 1e300]]' % silent.address[1], "\x00" * 9:
+            forever = '[["127.0.0.1", %d, 1e300]]' % silent.address[1]
+            for text in "", "[", "[1]", '[["127.0.0.1", 1]]', '{"a": 1}', forever, "\x00" * 9, "[" * 4096:
                 with open(path, "w") as file:
                     file.write(text)
                 self.assertEqual(each().silent.nodes(), set(), text)

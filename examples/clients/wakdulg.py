@@ -290,7 +290,7 @@ class Silent:
         try:
             with open(self.path, encoding="ascii") as file:
                 return {(host, port): float(until) for host, port, until in json.loads(file.read(4096))}
-        except (OSError, ValueError, TypeError):
+        except (OSError, ValueError, TypeError, RecursionError):
             return {}
 
     def _keep(self):
