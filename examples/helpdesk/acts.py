@@ -1,36 +1,57 @@
-"""The acts of staff. Each returns what came of it in some words, none of them a code or a secret."""
+"""The acts of staff. Each outcome is some words, none of them a code or a secret."""
+from __future__ import annotations
+
 import re
 import secrets
 import subprocess
+from collections.abc import Callable, Mapping, Sequence
+from typing import Any, NamedTuple
 
 import lists
 import phone
 import wakdulg
-from book import User, duplicates, row_in, with_row, with_rows
+from book import Book, Edit, User, duplicates, row_in, with_row, with_rows
+from members import Members
 from tokens import NEW_BYTES, Fault, Token
 from users_file import UsersFile
 
 # The rows of a users file, and how many faults of `oathd check` are looked for.
 MOST_ROWS, MOST_FAULTS = 10_000, 10
 KINDS = {"totp": "An app that shows a new code every 30 seconds", "hotp": "A device that counts presses of a button"}
+CODE = re.compile("[0-9]{6,8}")
+Form = Mapping[str, str]
 
 
 class Shown:
-    """A new secret, which only the session of an act shows, and the kind of its token."""
+    """A new secret as a page shows it, and the kind of its token."""
 
-    def __init__(self, token, issuer):
-        self.uri, self.kind = phone.uri_of(token, issuer, token.user), kind_of(token)
-        self.secret = self.uri.split("secret=")[1].split("&")[0]
-        self.squares = squares_of(self.uri)
+    def __init__(self, uri: str, kind: str) -> None:
+        self.uri, self.kind = uri, kind
+        self.secret = uri.split("secret=")[1].split("&")[0]
+        # qrencode has the URI from standard input, so `ps` doesn't show it.
+        self.squares = Squares(phone.draw(uri, "ASCII").decode().splitlines())
 
-    def spaced(self):
+    def spaced(self) -> str:
         return " ".join(self.secret[at:at + 4] for at in range(0, len(self.secret), 4))
+
+
+class Act(NamedTuple):
+    """An act that is ready: what can be refused without the cluster was looked at. `run` does it, and returns its
+    outcome. `adds` and `takes` are the names of the tokens whose rows the users file has afterwards, or hasn't any more.
+    `shown` is the new secret. `rows` has the user and the type of each row that is new."""
+    name: str
+    user: str
+    run: Callable[[], str]
+    adds: str = ""
+    takes: str = ""
+    shown: Shown | None = None
+    rows: Sequence[tuple[str, str]] = ()
 
 
 class Squares:
     """A QR code as a path of a picture with squares of one unit."""
 
-    def __init__(self, lines):
+    def __init__(self, lines: list[str]) -> None:
         self.height, self.width, runs = len(lines), max(map(len, lines)) // 2, []
         for y, line in enumerate(lines):
             for run in re.finditer("#+", line[::2]):
@@ -39,23 +60,20 @@ class Squares:
         self.path = "".join(runs)
 
 
-def squares_of(uri):
-    """Returns the QR code of a URI. qrencode has it from standard input, so `ps` doesn't show it."""
-    return Squares(phone.draw(uri, "ASCII").decode().splitlines())
-
-
-def copied(outcome):
+def copied(outcome: tuple[bool, str]) -> str:
     """Returns the words for what the hook did."""
     is_done, said = outcome
     return "copied to the members" if is_done else "pending, NOT copied to all members: %s" % said
 
 
-def kind_of(token):
+def kind_of(token: Token) -> str:
     return User(b"", token.type_word()).kind()
 
 
-def new_token(name, kind, **more):
+def new_token(name: str, kind: str, **more: Any) -> Token:
     """Returns a new token with random bytes of the system."""
+    if not name:
+        raise Fault("the form", "NoName", "give the name of the user")
     if kind not in KINDS:
         raise Fault("the form", "BadType", "choose one of both kinds")
     token = Token("the form", secrets.token_bytes(NEW_BYTES), kind, user=name, **more)
@@ -63,7 +81,7 @@ def new_token(name, kind, **more):
     return token
 
 
-def token_in_place_of(user, kind):
+def token_in_place_of(user: User, kind: str) -> Token:
     """Returns a new token of a user: of a kind that the form names, else with all that the user's token has."""
     if kind:
         return new_token(user.text, kind)
@@ -71,57 +89,87 @@ def token_in_place_of(user, kind):
     return new_token(user.text, kind, period=period, digits=user.digits(), hash=user.hash())
 
 
-class Desk:
-    """What the acts work on."""
+def read_codes(form: Form) -> tuple[str, str]:
+    """Returns the two codes of a form that a cluster may take."""
+    first, second = form.get("first", "").strip(), form.get("second", "").strip()
+    if not CODE.fullmatch(first) or not CODE.fullmatch(second):
+        raise Fault("the form", "BadCode", "each code of the user has 6 to 8 digits")
+    if first == second:
+        raise Fault("the form", "SameCode", "wait for the user's next code: both are the same")
+    return first, second
 
-    def __init__(self, book, members, cluster, staff, issuer):
+
+class Desk:
+    """What the acts work on. Each method that is named as an act makes it ready, and changes nothing."""
+
+    def __init__(self, book: Book, members: Members | None, cluster: wakdulg.Cluster, staff: Callable[[], set[str]],
+                 issuer: str) -> None:
         self.book, self.members, self.cluster, self.staff, self.issuer = book, members, cluster, staff, issuer
 
-    def protect(self, name):
+    def protect(self, name: str) -> None:
         """Refuses to change the row of a member of staff: who could do that could act in that name."""
         if name in self.staff():
             raise Fault("staff", "Protected", "%s is staff, whose rows are changed on the host alone" % name)
 
-    def unlock(self, user, form):
-        return self.members.unlock(user.name)
+    def unlock(self, user: User, form: Form) -> Act:
+        return Act("unlock", user.text, lambda: self.members.unlock(user.name))
 
-    def resync(self, user, form):
-        codes = form.get("first", "").strip(), form.get("second", "").strip()
+    def resync(self, user: User, form: Form) -> Act:
+        codes = read_codes(form)
+        return Act("resync", user.text, lambda: self.resynchronized(user.text, *codes))
+
+    def resynchronized(self, name: str, first: str, second: str) -> str:
         try:
-            return "resynchronized at factor %d" % self.cluster.resync(user.text, *codes).factor
+            return "resynchronized at factor %d" % self.cluster.resync(name, first, second).factor
         except wakdulg.Refused as refusal:
             raise Fault("the cluster", "refused", str(refusal)) from None
 
-    def replace(self, user, form):
-        """Gives the user another secret, of the same kind if the form names none. Returns also what a page shows."""
+    def edited(self, name: str, user: str, edit: Edit, done: str, **more: Any) -> Act:
+        """Returns an act that changes the users file, after a try that writes nothing."""
+        self.book.try_change(edit)
+        return Act(name, user, lambda: "%s; %s" % (done, copied(self.book.change(edit))), **more)
+
+    def shown_of(self, token: Token) -> Shown:
+        return Shown(phone.uri_of(token, self.issuer, token.user or ""), kind_of(token))
+
+    def replace(self, user: User, form: Form) -> Act:
+        """Gives the user another secret, of the same kind if the form names none."""
         self.protect(user.text)
         token = token_in_place_of(user, form.get("kind", ""))
-        shown = Shown(token, self.issuer)
-        outcome = self.book.change(self.replacement(user, token))
-        return "replaced the token (%s); %s" % (shown.kind, copied(outcome)), shown
+        shown = self.shown_of(token)
+        return self.edited("replace", user.text, self.replacement(user, token), "replaced the token (%s)" % shown.kind,
+                           adds=self.book.name_of(token), shown=shown, rows=[(user.text, token.type_word())])
 
     @staticmethod
-    def replacement(user, token):
-        def edit(users):
+    def replacement(user: User, token: Token) -> Edit:
+        def edit(users: UsersFile) -> bytes:
             fields = token.row("-").split(b"\t")
             fields[2] = row_in(users, user.name).password
-            new = b"\t".join(fields)
-            return with_row(user.name, user.mark, new)(users)
+            return with_row(user.name, user.mark, b"\t".join(fields))(users)
         return edit
 
-    def retire(self, user, form):
+    def retire(self, user: User, form: Form) -> Act:
         self.protect(user.text)
-        return "retired; " + copied(self.book.change(with_row(user.name, user.mark, b"")))
+        return self.edited("retire", user.text, with_row(user.name, user.mark, b""), "retired",
+                           takes=(user.token or b"").decode())
 
-    def enrol(self, form):
-        """Adds a user with a new secret. Returns also the user's name and what a page shows."""
+    def enrol(self, form: Form) -> Act:
+        """Adds a user with a new secret."""
         name = form.get("name", "").strip()
         self.protect(name)
         token = new_token(name, form.get("kind", ""))
-        shown = Shown(token, self.issuer)
-        return "enrolled; " + copied(self.book.change(with_rows([token]))), name, shown
+        return self.edited("enrol", name, with_rows([token]), "enrolled", adds=self.book.name_of(token),
+                           shown=self.shown_of(token))
 
-    def check_import(self, data, secret_form, kind):
+    def import_rows(self, tokens: list[Token]) -> Act:
+        names = ", ".join(token.user for token in tokens[:20]) + (" .." if len(tokens) > 20 else "")
+        for token in tokens:
+            self.protect(token.user)
+        return self.edited("import", names, with_rows(tokens), "added %d user%s" % (len(tokens), "s" * (len(tokens) > 1)),
+                           adds=self.book.name_of(tokens[0]),
+                           rows=[(token.user or "", token.type_word()) for token in tokens])
+
+    def check_import(self, data: bytes, secret_form: str, kind: str | None) -> tuple[list[Token], list[str]]:
         """Returns the tokens of a CSV file, and each fault of it. `oathd check` reads the rows that they would have."""
         words = ImportWords(secret_form, kind)
         found, _ = lists.read_csv(data, "file", words, words)
@@ -139,7 +187,7 @@ class Desk:
         good = [token for token in good if not any(fault.startswith(token.place + ":") for fault in twice)]
         return good, sorted(faults + twice, key=line_of) + self.oathd_faults(good)
 
-    def oathd_faults(self, tokens):
+    def oathd_faults(self, tokens: list[Token]) -> list[str]:
         """Returns what `oathd check` says of the rows alone, one fault after the other: not too many, since each costs a run
         over all rows."""
         rows, faults = [(token, token.row("-")) for token in tokens], []
@@ -162,18 +210,15 @@ class Desk:
             faults.append("the file: oathd check: more faults are not looked for")
         return faults
 
-    def import_rows(self, tokens):
-        return "added %d users; %s" % (len(tokens), copied(self.book.change(with_rows(tokens))))
-
 
 class ImportWords:
     """How `lists.read_csv` reads a file: a header with the names of fields."""
     delimiter, columns, column, digits, period, hash = ",", None, (), 6, 30, "SHA1"
 
-    def __init__(self, secret_form, kind):
+    def __init__(self, secret_form: str, kind: str | None) -> None:
         self.secrets, self.kind = secret_form, kind
 
 
-def line_of(fault):
+def line_of(fault: str) -> int:
     number = fault.partition("line ")[2].partition(":")[0]
     return int(number) if number.isdigit() else 0

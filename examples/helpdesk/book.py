@@ -1,4 +1,6 @@
 """The users file of the site: who has which token, and the one writer of it."""
+from __future__ import annotations
+
 import contextlib
 import functools
 import hashlib
@@ -9,73 +11,79 @@ import signal
 import subprocess
 import threading
 import time
+from collections.abc import Callable
 from typing import NamedTuple
 
-from tokens import Fault, read_rows
+from tokens import Fault, Row, Token, read_rows
 from users_file import UsersFile, ask_oathd, lock_beside, sync_folder
 
+# What makes the text of a new file of an old one.
+Edit = Callable[[UsersFile], bytes]
 HASHES = {"SHA256": "SHA-256", "SHA512": "SHA-512"}
 PASSWORDS = {b"-": "none", b"+": "not checked by the nodes"}
 
 
 class User(NamedTuple):
     """A row of the users file, without its secret. `mark` differs if the row does. `token` is the name by which members
-    know the row's token: it differs if the user, the secret or the type does. A user without a row has none."""
+    know the row's token: it differs if the user, the secret or the type does. A user without a row has none. `begin` is
+    the counter at which an event token begins."""
     name: bytes
     type: str = ""
     password: str = ""
     mark: bytes = b""
     token: bytes | None = None
+    begin: int = 0
 
     @property
-    def text(self):
+    def text(self) -> str:
         return self.name.decode("utf-8", "backslashreplace")
 
     @property
-    def hex(self):
+    def hex(self) -> str:
         return self.name.hex()
 
     @property
-    def has_password(self):
+    def has_password(self) -> bool:
         """Whether the cluster checks a password of this user."""
         return self.password not in PASSWORDS.values()
 
-    def period(self):
+    def period(self) -> int | None:
         """Returns the seconds of a step, or None for an event token."""
         return {"T30": 30, "T60": 60}.get((self.type + "/").split("/")[1])
 
-    def digits(self):
+    def digits(self) -> int:
         return int(self.type.split("/")[2])
 
-    def hash(self):
+    def hash(self) -> str:
         return (self.type.split("/") + ["SHA1"])[3]
 
-    def kind(self):
+    def kind(self) -> str:
         period = self.period()
         what = "time token, steps of %d s" % period if period else "event token"
         return "%s, %d digits, %s" % (what, self.digits(), HASHES.get(self.hash(), "SHA-1"))
 
 
 @functools.cache
-def whole_type(word):
+def whole_type(word: bytes) -> bytes:
     """Returns the type of a row with its kind and its digits, as `oathd export` writes it."""
     fields = word.split(b"/")
     return b"/".join(fields + [b"E", b"6"][len(fields) - 1:] if len(fields) < 3 else fields)
 
 
-def fields_of(row):
+def fields_of(row: Row) -> bytes:
     return b"\t".join([whole_type(row.type), row.user, row.secret.lower()])
 
 
-def mark_of(row):
+def mark_of(row: Row) -> bytes:
     return hashlib.sha256(fields_of(row) + b"\t" + row.password).digest()
 
 
-def user_of(row, names):
+def user_of(row: Row, names: bytes) -> User:
     """Returns the user of a row. `names` is the cluster's word of names."""
     password = PASSWORDS.get(row.password, "must be given")
     token = hmac.digest(names, fields_of(row) + b"\n", "sha256")[:16].hex().encode()
-    return User(row.user, whole_type(row.type).decode(), password, mark_of(row), token)
+    begin = int(row.rest[0]) if row.rest and row.rest[0].isdigit() else 0
+    return User(row.user, whole_type(row.type).decode(), password, mark_of(row), token, begin)
 
 
 class Book:
@@ -115,9 +123,18 @@ class Book:
             except (OSError, Fault) as fault:
                 self.fault = str(fault)
 
-    def find(self, name):
+    def find(self, name: bytes) -> User | None:
         self.refresh()
         return self.users.get(name)
+
+    def has(self, token: str) -> bool:
+        """Returns whether a row has a token, by the name of it."""
+        self.refresh()
+        return any(user.token == token.encode() for user in self.users.values())
+
+    def name_of(self, token: Token) -> str:
+        """Returns the name that a new token gets at the members."""
+        return (user_of(read_rows(token.row("-"))[0], self.names).token or b"").decode()
 
     def search(self, text, most):
         """Returns the first users whose names have the text, those that begin with it first, and how many there are."""
@@ -146,11 +163,15 @@ class Book:
             finally:
                 held.__exit__(None, None, None)
 
-    def check(self, text):
+    def check(self, text: bytes) -> None:
         """Raises a fault if oathd doesn't take the text of a users file."""
         ask_oathd(self.oathd, text, self.cluster)
 
-    def change(self, edit):
+    def try_change(self, edit: Edit) -> None:
+        """Raises the fault that a change would have now. It writes nothing."""
+        self.check(edit(UsersFile(self.path, create=False)))
+
+    def change(self, edit: Edit) -> tuple[bool, str]:
         """Puts the text that `edit` makes of the file in its place, and has it copied to the members. Returns whether
         that succeeded, and what the hook said. The lock is held meanwhile."""
         with self.lock():
@@ -235,7 +256,7 @@ def end_group(leader, pause=3):
             leader.communicate(timeout=pause)
 
 
-def row_in(users, name, mark=None):
+def row_in(users: UsersFile, name: bytes, mark: bytes | None = None) -> Row:
     """Returns the row of a user. If there is a `mark`, the row is to be the one that staff saw."""
     row = next((row for row in users.rows if row.user == name), None)
     if row is None or (mark is not None and mark_of(row) != mark):
@@ -243,9 +264,9 @@ def row_in(users, name, mark=None):
     return row
 
 
-def with_row(name, mark, new):
+def with_row(name: bytes, mark: bytes, new: bytes) -> Edit:
     """Returns an edit that puts `new` in the place of a user's row, or removes the row with b""."""
-    def edit(users):
+    def edit(users: UsersFile) -> bytes:
         row = row_in(users, name, mark)
         lines = users.text.split(b"\n")
         lines[row.line - 1:row.line] = [new.rstrip(b"\n")] if new else []
@@ -253,9 +274,9 @@ def with_row(name, mark, new):
     return edit
 
 
-def with_rows(tokens):
+def with_rows(tokens: list[Token]) -> Edit:
     """Returns an edit that adds the rows of new tokens. No user and no secret may be there already."""
-    def edit(users):
+    def edit(users: UsersFile) -> bytes:
         faults = duplicates(users, tokens)
         if faults:
             raise faults[0]
@@ -263,7 +284,7 @@ def with_rows(tokens):
     return edit
 
 
-def device_of(secret):
+def device_of(secret: bytes) -> bytes:
     """Returns what the codes of a secret depend on: HMAC fills a key with zero bytes."""
     secret = secret.lower()
     while secret.endswith(b"00") and len(secret) % 2 == 0:
@@ -271,7 +292,7 @@ def device_of(secret):
     return secret
 
 
-def duplicates(users, tokens):
+def duplicates(users: UsersFile, tokens: list[Token]) -> list[Fault]:
     """Returns a fault for each token whose user or secret the file, or an earlier token, has already. A secret is a
     device: if two users have it, a code of one lets in the other."""
     names, devices = {}, {}

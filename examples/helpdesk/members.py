@@ -1,4 +1,6 @@
 """What the members of a cluster by names tell an operator, by sealed requests, and what their logs have of a user."""
+from __future__ import annotations
+
 import concurrent.futures
 import os
 import re
@@ -28,7 +30,20 @@ class Row(NamedTuple):
     user: bytes
 
 
-def row_of(line):
+class Gate(NamedTuple):
+    """The failures of a user in a row, and the second at which the token opens."""
+    user: bytes
+    failures: int
+    until: int
+
+
+def gate_of(line: bytes) -> Gate:
+    """Returns the gate of a line of GATES."""
+    _, user, failures, until = line.split(b" ")
+    return Gate(user, int(failures), int(until))
+
+
+def row_of(line: bytes) -> Row:
     """Returns the row of a line of ROSTER."""
     fields = line.split(b" ", 4)
     return Row(int(fields[1]), fields[2], int(fields[3]), fields[4])
@@ -112,7 +127,7 @@ class Member:
         """Returns the row of a user, or None. New rows stand at the end. All rows are asked for only if the boot is
         new, and the row is neither there nor in its old place."""
         with self.lock:
-            boot = next(line for line in self.request(b"STATUS 0") if line.startswith(b"boot "))
+            boot = self.boot_now()
             place = self.places.get(user)
             if place is not None and (row := self.row_at(place, user)):
                 return row
@@ -124,13 +139,20 @@ class Member:
             self.boot = boot
             return found.get(user)
 
-    def gate(self, user):
+    def boot_now(self) -> bytes:
+        return next(line for line in self.request(b"STATUS 0") if line.startswith(b"boot "))
+
+    def gates(self) -> list[Gate]:
+        return [gate_of(line) for line in self.report(b"GATES")]
+
+    def roster(self) -> dict[bytes, Row]:
+        """Returns the rows by their users. Those of retired tokens have none."""
+        rows = (row_of(line) for line in self.report(b"ROSTER"))
+        return {row.user: row for row in rows if row.user != b"-"}
+
+    def gate(self, user: bytes) -> tuple[int, int]:
         """Returns the failures of a user in a row and the second at which the token opens, or 0 and 0."""
-        for line in self.report(b"GATES"):
-            _, name, failures, until = line.split(b" ")
-            if name == user:
-                return int(failures), int(until)
-        return 0, 0
+        return next(((gate.failures, gate.until) for gate in self.gates() if gate.user == user), (0, 0))
 
     def unlock(self, user):
         self.request(b"UNLOCK " + user)

@@ -1,18 +1,27 @@
 """The pages of the helpdesk: what staff see, and what they do."""
+from __future__ import annotations
+
 import json
 import time
+from collections.abc import Callable, Iterator
+from typing import Any
 
-from acts import KINDS
-from book import User
-from flask import Response, redirect, render_template, request
-from members import settled
-from passwords import Passwords
-from sessions import is_same
-from staff import hashes_of
-from tokens import Fault
 import wakdulg
 import web
-from web import NOT_BEGUN, Stop, at_moment
+from acts import KINDS, Act, Shown
+from book import User
+from everybody import MOST, Everybody
+from flask import Flask, Response, redirect, render_template, request
+from keeping import Kept
+from members import settled
+from passwords import Passwords
+from record import BEGINS, REFUSED, Line, second_of
+from sessions import Session, is_same
+from staff import ROLES, hashes_of, rights_of
+from tokens import Fault
+from verdict import verdict
+from waiting import Asked, Waiting
+from web import NOT_BEGUN, NOT_KEPT, Stop, at_moment, moment_of, to_hex
 
 MOST_FOUND, MOST_LINES = 50, 10
 ACTS = {
@@ -22,44 +31,85 @@ ACTS = {
                                      " of the members have the new row."),
     "retire": ("Retire", "The row is removed. The user logs in no more when more than half of the members know that."),
 }
+GOOD_STILL = "Nothing was done, and your code is good still: %s"
+NO_RIGHT = "Your role has no right to do that. The file of staff says who may."
+OWN = "You asked for it. Another one of staff has to confirm it."
+ASKED = "It waits for another one of staff until %s."
+LOST = "The browser of %s has the new secret no more. Nothing was done. Ask for it again."
+# The acts that two of staff make if the site says so, and the acts whose number in an hour is limited.
+OF_TWO = frozenset({"replace", "import"})
+COUNTED, HOUR = ROLES["all"], 3600
 PENDING = "Pending since %s: not all members have the users file. It is copied again by itself. %s"
 
 
 class Site(web.Pages):
     """What the helpdesk answers."""
     name = "Helpdesk"
-    places = [("/", "Search"), ("/enrol", "Enrol"), ("/import", "Import"), ("/cluster", "Cluster"),
-              ("/record", "Record")]
+    places = [("/", "Search"), ("/enrol", "Enrol"), ("/import", "Import"), ("/waiting", "Waiting"),
+              ("/cluster", "Cluster"), ("/record", "Record")]
 
-    def __init__(self, words):
+    def __init__(self, words: Any) -> None:
         super().__init__(words)
+        self.staff, self.most_acts, self.waiting = words.staff, words.acts, Waiting()
+        self.of_two = OF_TWO if words.two_of_staff else frozenset()
         self.members, self.table, self.logs = words.desk.members, words.table, words.logs
+        self.everybody = Everybody(self.members, self.book)
         self.passwords = Passwords(lambda: hashes_of(words.staff))
 
     # ---- Who asks
 
-    def is_welcome(self, session):
+    def is_welcome(self, session: Session) -> bool:
         return session.user in self.desk.staff()
 
-    def ask(self, user, call):
+    def ask(self, user: str, call: Callable[[], wakdulg.Accepted]) -> tuple[Any, tuple[str, int] | None]:
         """Asks the cluster. The log has names of staff alone: another one may be a password in the wrong field."""
         return super().ask(user if user in self.desk.staff() else "", call)
 
-    def check_login(self, user):
+    def check_login(self, user: str) -> wakdulg.Accepted:
         """The password first: a wrong one costs no code, and closes no token."""
         self.passwords.check(user, request.form.get("password", ""))
         return self.check_code(user)
 
-    def check_code(self, user):
+    def check_code(self, user: str) -> wakdulg.Accepted:
         return self.cluster.check(user, request.form.get("code", "").strip())
+
+    def note_refusal(self, user: str, refusal: wakdulg.Refused) -> None:
+        """A name that isn't staff may be a password in the wrong field."""
+        self.note(user if user in self.desk.staff() else "", "log in", "", "%s: %s" % (REFUSED, refusal))
+
+    # ---- Who may do what
+
+    def rights(self, session: Session) -> frozenset[str]:
+        return rights_of(self.staff).get(session.user, frozenset())
+
+    def places_of(self, session: Session) -> list[tuple[str, str]]:
+        wants = {"/enrol": "enrol", "/import": "import"}
+        return [(path, name) for path, name in self.places
+                if (self.of_two if path == "/waiting" else wants.get(path, "") in {"", *self.rights(session)})]
+
+    def entitle(self, session: Session, act: str) -> None:
+        """Stops whoever has no right to an act. The record has a form that was sent without one."""
+        if act not in self.rights(session):
+            if request.method == "POST":
+                session.alert = self.note(session.user, act, "", REFUSED + ": no right")
+            raise Stop((self.page("message.html", "Not allowed", session, fault=NO_RIGHT), 403))
+
+    def too_many(self, who: str) -> str:
+        """Looks how many acts somebody began within an hour, as the record has it."""
+        moments = [line["when"] for line in self.record.acts(time.time() - HOUR) if line.get("who") == who
+                   and line.get("act") in COUNTED and not line.get("outcome", "").startswith(REFUSED)]
+        if len(moments) < self.most_acts:
+            return ""
+        again = second_of(moments[self.most_acts - 1]) + HOUR
+        return "You began %d acts within an hour. The next one is possible at %s." % (len(moments), at_moment(again))
 
     # ---- Pages
 
-    def warning(self):
+    def warning(self) -> str:
         since = self.book.pending()
         return "" if since is None else PENDING % (at_moment(since), self.book.said)
 
-    def user_of(self, name, is_retired=False):
+    def user_of(self, name: str, is_retired: bool = False) -> User:
         """Returns the user of a path. With `is_retired` it may be one of no row."""
         try:
             name = bytes.fromhex(name)
@@ -71,17 +121,17 @@ class Site(web.Pages):
                                   fault="The users file has no such user."), 404))
         return user
 
-    def found(self):
+    def found(self) -> tuple[str, list[User], int]:
         text = request.args.get("q", "")
         users, count = self.book.search(text, MOST_FOUND)
         return text, users, count
 
-    def show_search(self):
+    def show_search(self) -> Any:
         session = self.own_session()
         text, users, count = self.found()
         return self.page("search.html", "Search", session, text=text, users=users, count=count, fault=self.book.fault)
 
-    def search(self):
+    def search(self) -> Any:
         begin = time.thread_time()
         if self.session() is None:
             return {}, 401
@@ -91,42 +141,69 @@ class Site(web.Pages):
         answer.headers["Server-Timing"] = "search;dur=%.1f" % (1000 * (time.thread_time() - begin))
         return answer
 
-    def states_of(self, user):
+    def states_of(self, user: User) -> dict[str, Any]:
         """Returns what a page tells of the members and a user."""
-        states = self.members.states(user)
+        states, now = self.members.states(user), int(time.time())
         what = "have the row" if user.token else "have no row of the user"
-        return {"user": user, "states": states, "settled": settled(states, what), "now": int(time.time())}
+        return {"user": user, "states": states, "settled": settled(states, what), "now": now,
+                "verdict": verdict(user, states, now)}
 
-    def show_user(self, name):
+    def outcome_of(self, line: Line) -> str:
+        """Returns the outcome of an act. One that begins in the record and has no outcome was lost midway, or is being
+        done: the users file tells how far it came."""
+        if line.get("outcome") != BEGINS:
+            return str(line.get("outcome", ""))
+        what = "look at the members"
+        if line.get("adds"):
+            what = "the users file %s the new row" % ("has" if self.book.has(line["adds"]) else "hasn't")
+        elif line.get("takes"):
+            what = "the users file %s the row" % ("still has" if self.book.has(line["takes"]) else "hasn't")
+        return "begun at %s, its end isn't known: %s" % (moment_of(line), what)
+
+    def done_to(self, user: User) -> dict[str, Any]:
+        """Returns what a page tells of the acts on a user."""
+        done = self.record.last(MOST_LINES, user.text)
+        return {"done": done, "unfinished": [line for line in done if line.get("outcome") == BEGINS]}
+
+    def show_user(self, name: str) -> Any:
         session, user = self.own_session(), self.user_of(name)
-        return self.page("user.html", user.text, session, acts=ACTS, answers=self.logs.last(user.name, MOST_LINES),
-                         done=self.record.last(MOST_LINES, user.text), **self.states_of(user))
+        acts = {act: words for act, words in ACTS.items() if act in self.rights(session)}
+        waiting = [asked for asked in self.waiting.all() if asked.act.user == user.text]
+        return self.page("user.html", user.text, session, acts=acts, answers=self.logs.last(user.name, MOST_LINES),
+                         waiting=waiting, **self.done_to(user), **self.states_of(user))
 
-    def show_retired(self, name):
+    def show_retired(self, name: str) -> Any:
         """Which members have a row of a user still, whom the file has no more."""
         session, user = self.own_session(), self.user_of(name, is_retired=True)
         if user.token:
             return redirect("/users/%s" % user.hex, 303)
-        return self.page("retired.html", "%s has no row" % user.text, session,
-                         done=self.record.last(MOST_LINES, user.text), **self.states_of(user))
+        return self.page("retired.html", "%s has no row" % user.text, session, **self.done_to(user),
+                         **self.states_of(user))
 
-    def show_states(self, name):
+    def show_states(self, name: str) -> Any:
         """A part of a page: which members have the row. It doesn't keep the session alive."""
         if self.session(is_used=False) is None:
             return "", 401
         return render_template("states.html", **self.states_of(self.user_of(name, is_retired=True)))
 
-    def told(self, table):
+    def told(self, table: dict[str, Any]) -> dict[str, Any]:
         """Returns a table with what the page says of it. Members that all serve an older users file are well, and the
         file isn't in force."""
         pending = "" if self.book.pending() is None else "the members are well, and not all have the users file"
         return {**table, "said": table["said"] or pending or "all members are well"}
 
-    def show_cluster(self):
+    def show_cluster(self) -> Any:
         session = self.own_session()
-        return self.page("cluster.html", "The cluster", session, table=self.told(self.table.now()[1]))
+        return self.page("cluster.html", "The cluster", session, table=self.told(self.table.now()[1]),
+                         lists=self.everybody.now(), most=MOST)
 
-    def events(self):
+    def show_lists(self) -> Any:
+        """A part of the page of the cluster. It doesn't keep the session alive."""
+        if self.session(is_used=False) is None:
+            return "", 401
+        return render_template("lists.html", lists=self.everybody.now(), most=MOST)
+
+    def events(self) -> Any:
         """Sends a table whenever there is a new one, while the session lives. It doesn't keep the session alive."""
         if self.session(is_used=False) is None:
             return "", 401
@@ -135,7 +212,7 @@ class Site(web.Pages):
             return "", 503
         name = self.cookie()
 
-        def tell():
+        def tell() -> Iterator[str]:
             try:
                 number = 0
                 while (session := self.sessions.find(name, is_used=False)) and session.user in self.desk.staff():
@@ -146,83 +223,176 @@ class Site(web.Pages):
                 self.table.places.release()
         return Response(tell(), content_type="text/event-stream", headers={"X-Accel-Buffering": "no"})
 
-    def show_record(self):
+    def show_record(self) -> Any:
         session = self.own_session()
         return self.page("record.html", "What staff did", session, done=self.record.last(200))
 
     # ---- Acts
 
-    def perform(self, session, act, user, call):
-        """Makes an act after the second code of staff, and notes both in the record. Returns a fault, a status, and
-        what the call returned. An act that can't be noted isn't begun."""
-        _, refusal = self.ask(session.user, lambda: self.check_code(session.user))
-        if refusal:
-            session.alert = self.note(session.user, act, user, "refused: the second code")
-            return (*refusal, None)
-        if self.note(session.user, act, user, "begins"):
-            return NOT_BEGUN, 503, None
-        try:
-            done = call()
-        except (Fault, OSError) as fault:
-            session.alert = self.note(session.user, act, user, "failed: %s" % fault)
-            return "Nothing was done: %s" % fault, 409, None
-        outcome = done if isinstance(done, str) else done[0]
-        session.notice = "%s: %s." % (user or "Import", outcome)
-        session.alert = self.note(session.user, act, user, outcome)
-        return "", 303, done
+    def perform(self, session: Session, act: Act) -> tuple[str, int]:
+        """Does an act after the second code of staff, or asks another one of staff for it. Returns "" and 303, or a fault
+        and its status."""
+        if refusal := self.hindrance(session.user) or self.second_code(session, act):
+            return refusal
+        return self.ask_another(session, act) if act.name in self.of_two else self.carry_out(session, act)
 
-    def confirmation(self, session, user, act, fault="", status=200):
+    def second_code(self, session: Session, act: Act) -> tuple[str, int] | None:
+        outcome, refusal = self.ask(session.user, lambda: self.check_code(session.user))
+        if refusal:
+            session.alert = self.note(session.user, act.name, act.user, REFUSED + ": the second code")
+        else:
+            session.factor = outcome.factor
+        return refusal
+
+    def path_after(self, act: Act) -> str:
+        """Returns the page that follows an act."""
+        if act.name in self.of_two:
+            return "/waiting"
+        page = "/secret" if act.shown else "/retired" if act.name == "retire" else ""
+        return "/" if act.name == "import" else "/users/%s%s" % (to_hex(act.user), page)
+
+    def confirmation(self, session: Session, user: User, act: str, fault: str = "", status: int = 200) -> Any:
         title, what = ACTS[act]
         seen = self.sessions.mark(user.mark)
         return self.page("confirm.html", "%s: %s" % (title, user.text), session, user=user, act=act, button=title,
                          what=what, seen=seen, kinds=KINDS, fault=fault), status
 
-    def show_act(self, name, act):
+    def show_act(self, name: str, act: str) -> Any:
         session, user = self.own_session(), self.user_of(name)
-        return self.confirmation(session, user, act) if act in ACTS else ("", 404)
+        if act not in ACTS:
+            return "", 404
+        self.entitle(session, act)
+        return self.confirmation(session, user, act)
 
-    def do_act(self, name, act):
+    def do_act(self, name: str, act: str) -> Any:
         session, user = self.posted(), self.user_of(name)
         if act not in ACTS:
             return "", 404
+        self.entitle(session, act)
         if not is_same(request.form.get("seen", ""), self.sessions.mark(user.mark)):
             return self.confirmation(session, user, act, "The row was changed meanwhile. Nothing was done.", 409)
-        call = getattr(self.desk, act)
-        fault, status, done = self.perform(session, act, user.text, lambda: call(user, request.form))
-        if fault:
-            return self.confirmation(session, user, act, fault, status)
-        if act == "replace":
-            session.shown[user.hex] = done[1]
-            return redirect("/users/%s/secret" % user.hex, 303)
-        return redirect("/users/%s%s" % (user.hex, "/retired" if act == "retire" else ""), 303)
+        try:
+            ready = getattr(self.desk, act)(user, request.form)
+        except (Fault, OSError) as fault:
+            return self.confirmation(session, user, act, GOOD_STILL % fault, 409)
+        told, status = self.perform(session, ready)
+        return self.confirmation(session, user, act, told, status) if told else redirect(self.path_after(ready), 303)
 
-    def show_secret(self, name):
-        session, user = self.own_session(), self.user_of(name)
-        shown = session.shown.pop(user.hex, None) if request.method == "GET" else None
-        return self.page("secret.html", "The new phone of %s" % user.text, session, shown=shown,
-                         **self.states_of(user))
-
-    def show_enrol(self, fault="", status=200):
+    def show_enrol(self, fault: str = "", status: int = 200) -> Any:
         session = self.own_session()
+        self.entitle(session, "enrol")
         return self.page("enrol.html", "Enrol a user", session, kinds=KINDS, fault=fault,
-                         name=request.form.get("name", "")), status
+                         kind=request.form.get("kind", "totp"), name=request.form.get("name", "")), status
 
-    def enrol(self):
-        session, name = self.posted(), request.form.get("name", "").strip()
-        fault, status, done = self.perform(session, "enrol", name, lambda: self.desk.enrol(request.form))
-        if fault:
-            return self.show_enrol(fault, status)
-        key = done[1].encode().hex()
-        session.shown[key] = done[2]
-        return redirect("/users/%s/secret" % key, 303)
+    def enrol(self) -> Any:
+        session = self.posted()
+        self.entitle(session, "enrol")
+        try:
+            ready = self.desk.enrol(request.form)
+        except (Fault, OSError) as fault:
+            return self.show_enrol(GOOD_STILL % fault, 409)
+        told, status = self.perform(session, ready)
+        return self.show_enrol(told, status) if told else redirect(self.path_after(ready), 303)
 
-    def show_import(self, fault="", status=200):
+    # ---- Acts of two
+
+    def ask_another(self, session: Session, act: Act) -> tuple[str, int]:
+        """Lets an act wait for another one of staff. Its secret is kept for the browser of whoever asks."""
+        try:
+            path = self.keep(session, act)
+        except OSError as fault:
+            return NOT_KEPT % type(fault).__name__, 503
+        if self.note(session.user, act.name, act.user, "asks another one of staff"):
+            self.keeper.forget(path)
+            return NOT_BEGUN, 503
+        asked = self.waiting.add(session.user, act)
+        session.notice = "%s. %s" % (self.title_of(asked), ASKED % at_moment(asked.ends))
+        return "", 303
+
+    @staticmethod
+    def title_of(asked: Asked) -> str:
+        what = "Import: " if asked.act.name == "import" else ACTS[asked.act.name][0] + ": "
+        return what + asked.act.user
+
+    def show_waiting(self) -> Any:
         session = self.own_session()
+        return self.page("waiting.html", "What waits for another one of staff", session, waiting=self.waiting.all())
+
+    def asked_for(self, session: Session, id: str) -> Asked:
+        asked = self.waiting.find(id)
+        if asked is None:
+            gone = "It was confirmed, or its hour is over."
+            raise Stop((self.page("message.html", "Nothing waits here", session, fault=gone), 404))
+        return asked
+
+    def show_asked(self, id: str, fault: str = "", status: int = 200) -> Any:
+        session = self.own_session()
+        asked = self.asked_for(session, id)
+        return self.page("asked.html", self.title_of(asked), session, asked=asked, fault=fault,
+                         is_own=asked.who == session.user), status
+
+    def confirm_asked(self, id: str) -> Any:
+        """Does what another one of staff asked for, after a code of this one."""
+        session = self.posted()
+        asked = self.asked_for(session, id)
+        act = asked.act
+        self.entitle(session, act.name)
+        if asked.who == session.user:
+            session.alert = self.note(session.user, act.name, act.user, REFUSED + ": confirmed by who asked")
+            return self.show_asked(id, OWN, 403)
+        if refusal := self.hindrance(session.user) or self.second_code(session, act):
+            return self.show_asked(id, *refusal)
+        try:
+            told, status = self.confirmed(session, self.waiting.take(id))
+        except Fault as fault:
+            told, status = str(fault), 409
+        if told:
+            return self.page("message.html", self.title_of(asked), session, fault=told), status
+        return redirect("/" if act.name == "import" else "/users/" + to_hex(act.user), 303)
+
+    def confirmed(self, session: Session, asked: Asked) -> tuple[str, int]:
+        """Does the act of who asked for it, if that one has the right still, and a browser has the secret."""
+        if asked.act.name not in rights_of(self.staff).get(asked.who, frozenset()):
+            return "%s has no right to it any more. Nothing was done." % asked.who, 403
+        path = self.keeper.path_of(asked.act.adds) if asked.act.shown else ""
+        if asked.act.shown and not path:
+            return LOST % asked.who, 409
+        return self.carry_out(session, asked.act, path, asked=asked.who)
+
+    # ---- New secrets
+
+    def unconfirmed(self, session: Session) -> list[Kept]:
+        """Returns the secrets that this member of staff made in this browser, and hasn't confirmed."""
+        return [kept for kept in self.kept() if kept.owner == session.user]
+
+    def kept_of(self, session: Session, user: User) -> Kept | None:
+        return next((kept for kept in self.unconfirmed(session) if kept.user == user.text), None)
+
+    def show_secret(self, name: str) -> Any:
+        """Shows a new secret until staff say that the phone has it."""
+        session, user = self.own_session(), self.user_of(name)
+        kept = self.kept_of(session, user)
+        return self.page("secret.html", "The new phone of %s" % user.text, session,
+                         shown=Shown(kept.uri, kept.kind) if kept else None, **self.states_of(user))
+
+    def confirm_seen(self, name: str) -> Any:
+        session, user = self.posted(), self.user_of(name)
+        kept = self.kept_of(session, user)
+        if kept:
+            self.keeper.forget(kept.path)
+            session.notice = "The phone of %s has the new secret." % user.text
+            session.alert = self.note(session.user, "confirm", user.text, "the phone has the new secret")
+        return redirect("/users/" + user.hex, 303)
+
+    def show_import(self, fault: str = "", status: int = 200) -> Any:
+        session = self.own_session()
+        self.entitle(session, "import")
         return self.page("import.html", "Import users", session, fault=fault), status
 
-    def dry_run(self):
+    def dry_run(self) -> Any:
         """Reads a file and keeps its rows in the session, since they have secrets that no page may have."""
         session, file = self.posted(), request.files.get("file")
+        self.entitle(session, "import")
         try:
             form, kind = request.form.get("secrets"), request.form.get("kind")
             data = file.read() if file else b""
@@ -234,42 +404,48 @@ class Site(web.Pages):
         session.imports = {name: (tokens, faults)}
         return redirect("/import/" + name, 303)
 
-    def kept_import(self, session, name):
+    def kept_import(self, session: Session, name: str) -> Any:
         if name not in session.imports:
             raise Stop((self.page("message.html", "No such import", session, fault="It is done, or is too old."), 404))
         return session.imports[name]
 
-    def show_dry_run(self, name, fault="", status=200):
+    def show_dry_run(self, name: str, fault: str = "", status: int = 200) -> Any:
         session = self.own_session()
         tokens, faults = self.kept_import(session, name)
         rows = [(token.user, token.type_word(), token.place) for token in tokens]
         return self.page("dry-run.html", "Import: dry run", session, rows=rows, faults=faults, fault=fault), status
 
-    def do_import(self, name):
+    def do_import(self, name: str) -> Any:
         session = self.posted()
+        self.entitle(session, "import")
         tokens, faults = self.kept_import(session, name)
         if faults or not tokens:
             return self.show_dry_run(name, "A file with a fault isn't imported.", 409)
-        names = ", ".join(token.user for token in tokens[:20]) + (" .." if len(tokens) > 20 else "")
-        fault, status, _ = self.perform(session, "import", names, lambda: self.desk.import_rows(tokens))
-        if fault:
-            return self.show_dry_run(name, fault, status)
+        try:
+            ready = self.desk.import_rows(tokens)
+        except (Fault, OSError) as fault:
+            return self.show_dry_run(name, GOOD_STILL % fault, 409)
+        told, status = self.perform(session, ready)
+        if told:
+            return self.show_dry_run(name, told, status)
         session.imports = {}
-        return redirect("/", 303)
+        return redirect(self.path_after(ready), 303)
 
 
-def make_application(words):
+def make_application(words: Any) -> Flask:
     """Returns the application of these words."""
     site = Site(words)
     routes = [
         ("/", site.show_search, "GET"), ("/search.json", site.search, "GET"), ("/login", site.show_login, "GET"),
         ("/login", site.log_in, "POST"), ("/logout", site.log_out, "POST"), ("/cluster", site.show_cluster, "GET"),
-        ("/cluster/events", site.events, "GET"), ("/record", site.show_record, "GET"),
+        ("/cluster/events", site.events, "GET"), ("/cluster/lists", site.show_lists, "GET"), ("/record", site.show_record, "GET"),
         ("/enrol", site.show_enrol, "GET"), ("/enrol", site.enrol, "POST"), ("/import", site.show_import, "GET"),
         ("/import", site.dry_run, "POST"), ("/import/<name>", site.show_dry_run, "GET"),
         ("/import/<name>", site.do_import, "POST"), ("/users/<name>", site.show_user, "GET"),
         ("/users/<name>/states", site.show_states, "GET"), ("/users/<name>/secret", site.show_secret, "GET"),
-        ("/users/<name>/retired", site.show_retired, "GET"),
+        ("/waiting", site.show_waiting, "GET"), ("/waiting/<id>", site.show_asked, "GET"),
+        ("/waiting/<id>", site.confirm_asked, "POST"),
+        ("/users/<name>/seen", site.confirm_seen, "POST"), ("/users/<name>/retired", site.show_retired, "GET"),
         ("/users/<name>/<act>", site.show_act, "GET"), ("/users/<name>/<act>", site.do_act, "POST"),
     ]
     return web.make_application(words, site, routes)

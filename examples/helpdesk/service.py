@@ -10,7 +10,7 @@ from book import Book
 from gunicorn.app.base import BaseApplication
 from gunicorn.workers.gthread import ThreadWorker
 from record import Record
-from staff import names_of
+from staff import staff_of
 
 THREADS = 96
 LOG = logging.getLogger("logins")
@@ -41,17 +41,12 @@ class Service(BaseApplication):
     def load(self):
         # In the process that serves, since a thread isn't in the child of a process.
         self.words.desk.book.keep_copying()
+        self.words.keeper.remove_old()
         return self.make_application(self.words)
 
 
 def oathd():
     return os.environ.get("OATHD", "oathd")
-
-
-def staff_of(path):
-    """Returns a call that gives the names of staff as the file has them now."""
-    names_of(path)
-    return lambda: names_of(path)
 
 
 def parser_of(usage):

@@ -99,7 +99,10 @@ def kinds():
     desk = Desk(book, None, None, set, "Example Site")
     for number, type in enumerate(TYPES, 1):
         before, user = rows()["user%d" % number], book.find(b"user%d" % number)
-        said, shown = desk.replace(user, {})
+        act = desk.replace(user, {})
+        expect("nothing is changed before the act", rows()["user%d" % number], before)
+        said, shown = act.run(), act.shown
+        expect("its name is the row's", book.find(user.name).token.decode(), act.adds)
         after = rows()["user%d" % number]
         _, kind, digits, *hash = user.type.split("/")
         expect("%s stays" % type, (book.find(user.name).kind(), after.password, after.secret != before.secret),
@@ -108,7 +111,7 @@ def kinds():
         link += "counter=0" if kind == "E" else "period=" + kind[1:]
         expect("the link has it", shown.uri.partition("algorithm=")[1:], ("algorithm=", link.partition("=")[2]))
         expect("and is told", (shown.kind, shown.kind in said), (user.kind(), True))
-    desk.replace(book.find(b"user8"), {"kind": "hotp"})
+    desk.replace(book.find(b"user8"), {"kind": "hotp"}).run()
     expect("a form may name another one", book.find(b"user8").type, "HOTP/E/6")
 
 

@@ -333,7 +333,7 @@ class Test:
         expect("the next code", self.answer("ann", codes[2]), "OK 42")
 
     def enrol(self):
-        """A new user, whose secret is shown once."""
+        """A new user, whose secret is shown until it is confirmed."""
         browser = self.browser
         self.fill_enrolment("eve")
         browser.picture("enrol")
@@ -349,18 +349,28 @@ class Test:
                "QR code of the new secret")
         self.have_row()
         expect("eve logs in", self.answer("eve", code(raw, 0)), "OK 0")
-        browser.press("Go to the user")
-        browser.driver.back()
-        expect("Back doesn't show it", (secret in browser.driver.page_source, browser.path()),
-               (False, place("eve", "secret")))
-        browser.open(place("eve", "secret"))
-        expect("shown once", (secret in browser.driver.page_source, "was shown once" in browser.text()), (False, True))
+        self.confirm_seen("eve", uri, secret)
         self.fill_enrolment("eve")
         browser.press("Enrol")
         expect("a user twice", "DuplicateUser" in browser.text("[role=alert]"), True)
         self.fill_enrolment("kim")
         browser.press("Enrol")
         expect("a name of staff", "Protected" in browser.text("[role=alert]"), True)
+
+    def confirm_seen(self, name, uri, secret):
+        """A secret is shown until staff say that the phone has it."""
+        browser = self.browser
+        browser.open(place(name, "secret"))
+        expect("a second look shows it", browser.text("#uri"), uri)
+        browser.press("The phone has it")
+        said = browser.text("[role=status]")
+        expect("confirmed", (browser.path(), said), (place(name), "The phone of %s has the new secret." % name))
+        browser.driver.back()
+        expect("Back doesn't show it", (secret in browser.driver.page_source, browser.path()),
+               (False, place(name, "secret")))
+        browser.open(place(name, "secret"))
+        expect("then it is shown no more", (secret in browser.driver.page_source, "has no new secret" in browser.text()),
+               (False, True))
 
     def replace(self):
         """A new phone: the old one is refused."""
@@ -405,10 +415,15 @@ class Test:
             await_that("what one member has", settled, "1 of 3 members have the row: pending.")
             says = browser.texts("#states tbody td:nth-child(2)")
             expect("what each member has", says, ["yes", "another token", "another token"])
+            expect("the verdict", browser.text("#verdict"), "Pending at members 2 and 3: an old phone may still get in.")
             browser.picture("pending")
+            browser.open("/cluster")
+            expect("in the list", browser.texts("#lacking a"), ["joe"])
             expect("the old phone gets in", await_answer(self.site.front([2]), "joe", code(joe.secret, 0)), "OK 0")
             self.act("lea", "Retire")
             await_that("who knows the user", settled, "1 of 3 members have no row of the user: pending.")
+            expect("the verdict", browser.text("#verdict"), "Retired, but pending: the user may still log in; "
+                                                            "members 2 and 3 still have a row.")
             self.site.crash_desk()
             browser.log_in(self.sam)
             expect("after a crash", browser.text("#warning").startswith("Pending since "), True)
@@ -419,6 +434,36 @@ class Test:
             await_that("what the members have of %s" % name, settled, wanted)
         expect("no warning", browser.driver.find_elements(By.ID, "warning"), [])
         expect("the old phone", await_answer(self.site.front([2]), "joe", code(joe.secret, 1)), "INVALID")
+
+    def killed(self):
+        """The service is killed amid a replacement: the pages tell what holds, and this browser gets the secret."""
+        browser, old, hold = self.browser, self.row("una"), self.site.folder / "hold"
+        hold.touch()
+        browser.open(place("una", "replace"))
+        browser.fill("Your own next code", self.sam.code())
+        browser.tab_to("Replace the phone")
+        # It returns when the browser has an answer.
+        pressing = threading.Thread(target=lambda: browser.keys(Keys.ENTER))
+        pressing.start()
+        await_that("the row is changed", lambda: self.row("una") != old)
+        self.site.crash_desk()
+        pressing.join()
+        hold.unlink()
+        browser.log_in(self.sam)
+        browser.open(place("una"))
+        expect("what is told", "its end isn't known: the users file has the new row." in browser.text(".unfinished"), True)
+        browser.picture("killed")
+        browser.open("/record")
+        expect("also in the record", "its end isn't known: the users file has" in browser.texts("tbody tr")[1], True)
+        browser.press("The new phone of una")
+        expect("the secret", browser.text("#secret").replace(" ", ""), base32_of(self.row("una")))
+        other = Window(self.site)
+        expect("another browser", other.log_in(self.sam), "303")
+        expect("doesn't see it", "has no new secret" in other.ask(place("una", "secret"))[1], True)
+        browser.press("The phone has it")
+        await_that("it is copied", lambda: (self.site.desk / "users.pending").exists(), False, 120)
+        settle(self.site)
+        expect("the new phone", self.answer("una", self.code_of("una", 0)), "OK 0")
 
     def unrecorded(self):
         """A record that can't be written: nothing is begun. If the act is done already, its secret is shown."""
@@ -541,6 +586,35 @@ class Test:
         expect("it has the new user", browser.texts("#states tbody td:nth-child(2)"), ["yes"] * 3)
         expect("who logs in there", await_answer(self.site.front([3]), "pia", self.code_of("pia", 1)), "OK 1")
 
+    def lists(self):
+        """Who is locked, and who never logged in, on the page Cluster. Its moment moves."""
+        browser, closed = self.browser, 0
+        while closed < 20:
+            try:
+                self.site.front([2]).check("wes", "000000")
+            except wakdulg.Throttled as refusal:
+                closed = refusal.seconds
+                time.sleep(closed * (closed < 20))
+            except wakdulg.Refused:
+                pass
+        browser.open(place("wes"))
+        expect("the verdict", browser.text("#verdict").startswith("Can log in; locked at member 2, opens in "), True)
+        browser.picture("locked")
+        browser.open("/cluster")
+        moment = browser.text("#moment")
+        expect("who is locked", browser.texts("#locked a"), ["wes"])
+        expect("who never logged in", "wes" in browser.texts("#unused a"), True)
+        await_that("the moment moves", lambda: browser.text("#moment") > moment, True, 60)
+        browser.picture("cluster-lists")
+        browser.expect_narrow("cluster-lists")
+        window = Window(self.site)
+        window.cookie = browser.cookie()
+        expect("without JavaScript", re.findall(r'id="moment">\d\d:\d\d:\d\d UTC<', window.ask("/cluster")[1]) != [], True)
+        self.act("wes", "Unlock")
+        expect("the verdict", browser.text("#verdict"), "Can log in.")
+        browser.open("/cluster")
+        await_that("nobody is locked", lambda: browser.texts("#locked a"), [])
+
     def enrol_without_a_member(self):
         browser = self.browser
         self.fill_enrolment("pia")
@@ -578,11 +652,11 @@ class Test:
 
 
 PARTS = ["login", "search", "ten_thousand", "unlock", "resync", "enrol", "in_time", "replace", "kinds", "retire",
-         "imports", "markup", "hostile", "staff_goes", "cluster", "pending", "unrecorded", "narrow", "logout"]
+         "imports", "markup", "hostile", "staff_goes", "lists", "cluster", "pending", "killed", "unrecorded", "narrow", "logout"]
 
 
 def main():
-    names = ("sam", "kim", "lou", "ann", "bob", "cid", "dora", "fay", "gus", "joe", "lea", "max", MARKUP)
+    names = ("sam", "kim", "lou", "ann", "bob", "cid", "dora", "fay", "gus", "joe", "lea", "max", "una", "wes", MARKUP)
     tokens = {name: Token(name, is_event=name != "bob") for name in names}
     tokens.update(tom=Token("tom", type="HOTP/T60/8/SHA256"), eli=Token("eli", type="HOTP/E/8"))
     return browsing.run(__doc__, "trial/helpdesk", PARTS, lambda folder: Site(folder, tokens.values(), names[:3]),

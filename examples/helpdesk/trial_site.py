@@ -5,6 +5,7 @@ import hashlib
 import os
 import secrets
 import shutil
+import signal
 import socket
 import subprocess
 import sys
@@ -33,6 +34,15 @@ IS_ROOT = os.geteuid() == 0
 STAMP = """import sys, time
 for line in sys.stdin:
     print(time.strftime("%Y-%m-%dT%H:%M:%SZ", time.gmtime()), line, end="", flush=True)"""
+
+
+def with_children(number):
+    """Returns a process, its children, and theirs."""
+    try:
+        found = Path("/proc/%d/task/%d/children" % (number, number)).read_text().split()
+    except FileNotFoundError:
+        return [number]
+    return [number] + [each for child in found for each in with_children(int(child))]
 
 
 class Token:
@@ -197,10 +207,12 @@ class Site:
         return words + ["--log=%d=%s" % (node, self.folder / ("log.%d" % node)) for node in NODES]
 
     def push(self):
-        """Returns the hook. It also keeps each file, for the checks that look for secrets."""
+        """Returns the hook. It also keeps each file, for the checks that look for secrets, and waits while there is a
+        file `hold`."""
         copies = [self.folder / "members" / str(node) / "users" for node in NODES]
         push = " ".join(map(str, [HERE / "push-users", self.desk / "users", *copies]))
-        return "sh -c 'cp %s %s/$(date +%%s%%N) && exec %s'" % (self.desk / "users", self.folder / "made", push)
+        words = self.desk / "users", self.folder / "made", self.folder / "hold", push
+        return "sh -c 'cp %s %s/$(date +%%s%%N); while [ -e %s ]; do sleep 0.1; done; exec %s'" % words
 
     def start_desk(self, *more_words):
         words = [*self.desk_words(), *more_words, "--key-file", "7:%s" % (self.desk / "front.key"), "--issuer",
@@ -303,9 +315,11 @@ class Site:
         return [self.folder / name for name in names]
 
     def crash_desk(self):
-        """Kills the service, and starts it again."""
+        """Kills the service with all that it began, as a crash does, and starts it again."""
         process = self.processes.pop("desk")
-        process.kill()
+        for number in reversed(with_children(process.pid)):
+            with contextlib.suppress(ProcessLookupError):
+                os.kill(number, signal.SIGKILL)
         process.wait()
         (self.desk / "socket").unlink()
         self.start_desk()

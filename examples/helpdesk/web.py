@@ -1,21 +1,35 @@
-"""What the pages of a site share: who asks, which forms are ours, and what the browser is told."""
+"""What the pages of a site share: who asks, which forms are ours, how an act is made, and what the browser is told."""
+from __future__ import annotations
+
 import io
+import re
+import threading
 import time
+from collections.abc import Callable, Iterable, Sequence
+from typing import Any
+from urllib.parse import quote
 
 import flask
 import wakdulg
+from acts import Act
 from flask import Flask, Response, redirect, render_template, request
 from jinja2 import FileSystemLoader
-from sessions import is_same
+from keeping import Kept
+from record import BEGINS, Line
+from sessions import Session, is_same
+from tokens import Fault
 
 # A refusal takes this many seconds, so its time doesn't tell who exists.
 REFUSAL = 1.0
-REFUSED = "That was not right, or was used before, or came too soon. Wait for some seconds, and give the next code."
+NOT_RIGHT = "That was not right, or was used before, or came too soon. Wait for some seconds, and give the next code."
 UNDECIDED = "The cluster doesn't decide now. Try again in a minute, with the next code."
 FOREIGN = "Use the form of this page. Load it again, and repeat."
 OVER = "Your session is over. Log in, and repeat."
 UNNOTED = "The record could not be written. Tell whoever runs this site."
 NOT_BEGUN, NOT_IN = "Nothing was done. " + UNNOTED, "You are not logged in. " + UNNOTED
+NOT_KEPT = "Nothing was done. The new secret could not be kept on the disk: %s. Tell whoever runs this site."
+# A path of the own site, with a query or without one. A browser takes what begins with // for another host.
+OWN_PATH = re.compile(r"/(?!/)[A-Za-z0-9_.~%/-]*(?:\?[A-Za-z0-9_.~%=&+/-]*)?")
 HEADERS = {
     "Cache-Control": "no-store",
     "Content-Security-Policy": "default-src 'none'; style-src 'self'; script-src 'self'; connect-src 'self'; "
@@ -31,7 +45,7 @@ HEADERS = {
 class Stop(Exception):
     """The answer in place of a page."""
 
-    def __init__(self, answer):
+    def __init__(self, answer: Any) -> None:
         super().__init__()
         self.answer = answer
 
@@ -39,69 +53,77 @@ class Stop(Exception):
 class Request(flask.Request):
     """A request whose files stay in memory, since an import has secrets. MAX_CONTENT_LENGTH limits them."""
 
-    def _get_file_stream(self, *_, **__):
+    def _get_file_stream(self, *_: Any, **__: Any) -> io.BytesIO:
         return io.BytesIO()
 
 
-def address():
+def address() -> str:
     return request.headers.get("X-Real-IP", "-")
 
 
 class Pages:
     """A site. Its name stands in titles, and its places in the navigation of whoever is logged in."""
-    name, places = "", ()
+    name = ""
+    places: Sequence[tuple[str, str]] = ()
 
-    def __init__(self, words):
-        self.origin, self.desk, self.sessions = words.origin, words.desk, words.sessions
+    def __init__(self, words: Any) -> None:
+        self.origin, self.desk, self.sessions, self.keeper = words.origin, words.desk, words.sessions, words.keeper
         self.book, self.cluster = words.desk.book, words.desk.cluster
-        self.record, self.login_log = words.record, words.login_log
+        self.record, self.login_log, self.beginning = words.record, words.login_log, threading.Lock()
 
     # ---- Who asks
 
-    def is_welcome(self, session):
+    def is_welcome(self, session: Session) -> bool:
         """Returns whether a session counts still."""
         raise NotImplementedError
 
-    def row_of(self, user):
+    def row_of(self, user: str) -> bytes:
         """Returns what a session keeps in mind of a user's row."""
         return b""
 
-    def check_login(self, user):
+    def check_login(self, user: str) -> wakdulg.Accepted:
         """Returns what the cluster accepts of the form of a login, or raises its refusal."""
         raise NotImplementedError
 
-    def cookie(self):
+    def note_refusal(self, user: str, refusal: wakdulg.Refused) -> None:
+        """Notes a login that was refused."""
+
+    def greeting(self, user: str) -> str:
+        """Returns what the first page after a login says."""
+        return ""
+
+    def cookie(self) -> str:
         names = self.sessions.names_in(request.headers.get("Cookie", ""))
         return names[0] if len(names) == 1 else ""
 
-    def session(self, is_used=True):
+    def session(self, is_used: bool = True) -> Session | None:
         """Returns the session of the browser, or None. Of two cookies one was planted, and neither counts."""
         name = self.cookie()
         session = self.sessions.find(name, is_used) if name else None
         return session if session and self.is_welcome(session) else None
 
-    def own_session(self, is_used=True):
+    def own_session(self, is_used: bool = True) -> Session:
         session = self.session(is_used)
         if session is None:
-            raise Stop(redirect("/login", 303) if request.method == "GET" else
+            raise Stop(redirect(login_path(), 303) if request.method == "GET" else
                        (self.page("message.html", "Log in", fault=OVER), 403))
         return session
 
-    def is_own_form(self):
+    def is_own_form(self) -> bool:
         """Returns whether a form comes from a page that this browser got from us."""
         site = request.headers.get("Sec-Fetch-Site")
         is_own = site == "same-origin" if site is not None else request.headers.get("Origin") == self.origin
         name = self.cookie()
         return bool(is_own and name and is_same(request.form.get("token", ""), self.sessions.form_token(name)))
 
-    def posted(self):
+    def posted(self) -> Session:
         """Returns the session of a form that is ours."""
         session = self.own_session()
         if not self.is_own_form():
             raise Stop((self.page("message.html", "Refused", fault=FOREIGN, session=session), 403))
         return session
 
-    def ask(self, user, call):
+    def ask(self, user: str, call: Callable[[], wakdulg.Accepted]) -> tuple[Any, tuple[str, int] | None]:
         """Returns what a call of the cluster returned or raised, and None or the text and the status of its refusal.
         The log has the answer."""
         begin, told = time.monotonic(), None
@@ -109,35 +131,128 @@ class Pages:
             outcome = call()
         except wakdulg.Refused as refusal:
             outcome = refusal
-            told = (UNDECIDED, 503) if isinstance(refusal, wakdulg.Undecided) else (REFUSED, 403)
+            told = (UNDECIDED, 503) if isinstance(refusal, wakdulg.Undecided) else (NOT_RIGHT, 403)
         self.login_log.info(wakdulg.log_line(address(), user, outcome))
         if told:
             time.sleep(max(0, begin + REFUSAL - time.monotonic()))
         return outcome, told
 
-    def note(self, who, act, user, outcome):
-        """Adds a line to the record. Returns "", or what a page says if the record can't be written: what was done
-        before is done, and a secret of it has to be shown."""
+    def next_code(self, session: Session) -> int:
+        """Returns the second at which a time token of the session's user shows its next code, or 0 if it shows it now,
+        or if that isn't known."""
+        user = self.book.find(session.user.encode("utf-8", "replace"))
+        period = user.period() if user else None
+        begin = (session.factor + 1) * period if period and session.factor is not None else 0
+        return begin if begin > time.time() else 0
+
+    # ---- The record
+
+    def write_down(self, who: str, act: str, user: str, outcome: str, **more: str) -> str:
+        """Adds a line to the record, and returns its print, or "" if the record can't be written."""
         try:
-            self.record.write(who, act, user, outcome, address())
+            return self.record.write(who, act, user, outcome, address(), **more)
         except OSError as fault:
             self.login_log.error("the record could not be written: %s", fault)
-            return UNNOTED
+            return ""
+
+    def note(self, who: str, act: str, user: str, outcome: str, **more: str) -> str:
+        """Adds a line to the record. Returns "", or what a page says if the record can't be written."""
+        return "" if self.write_down(who, act, user, outcome, **more) else UNNOTED
+
+    # ---- Acts
+
+    def too_many(self, who: str) -> str:
+        """Returns why somebody may not begin another act now, or ""."""
         return ""
+
+    def hindrance(self, who: str) -> tuple[str, int] | None:
+        """Returns what a page says if somebody may not begin another act now, and its status."""
+        try:
+            fault = self.too_many(who)
+        except OSError:
+            return NOT_BEGUN, 503
+        return (fault, 429) if fault else None
+
+    def keep(self, session: Session, act: Act) -> str:
+        """Keeps the new secret of an act for the browser that asks. Returns its path, or "" if the act has none."""
+        if act.shown is None:
+            return ""
+        kept = Kept("", time.time(), session.user, act.user, act.adds, act.shown.uri, act.shown.kind)
+        return self.keeper.keep(self.cookie(), kept)
+
+    def carry_out(self, session: Session, act: Act, path: str | None = None, **more: str) -> tuple[str, int]:
+        """Does an act: its new secret is on the disk before the record says that it begins, and that before it is done.
+        `path` is that of a secret which is kept already. Returns "" and 303, or a fault and its status."""
+        try:
+            path = self.keep(session, act) if path is None else path
+        except OSError as fault:
+            return NOT_KEPT % type(fault).__name__, 503
+        begun, refusal = self.begin(session.user, act, **more)
+        if refusal:
+            self.keeper.forget(path)
+            return refusal
+        try:
+            self.keeper.renew(path)
+            outcome = act.run()
+        except (Fault, OSError) as fault:
+            return self.failed(session, act, path, begun, fault)
+        session.notice = "%s: %s." % (act.user if act.name != "import" else "Import", outcome)
+        session.alert = self.note(session.user, act.name, act.user, outcome, of=begun, **more)
+        return "", 303
+
+    def begin(self, who: str, act: Act, **more: str) -> tuple[str, tuple[str, int] | None]:
+        """Notes that an act begins. Returns the print of the line, and None or a fault and its status. An act that can't
+        be noted isn't begun."""
+        with self.beginning:
+            if hindrance := self.hindrance(who):
+                return "", hindrance
+            begun = self.write_down(who, act.name, act.user, BEGINS, adds=act.adds, takes=act.takes, **more)
+        return begun, None if begun else (NOT_BEGUN, 503)
+
+    def failed(self, session: Session, act: Act, path: str, begun: str, fault: Exception) -> tuple[str, int]:
+        """Returns what a page says of an act that raised a fault. Of a fault of the system the users file tells whether
+        it came after the change."""
+        is_done = isinstance(fault, OSError) and bool(act.adds and self.book.has(act.adds) or
+                                                      act.takes and not self.book.has(act.takes))
+        if not is_done:
+            self.keeper.forget(path)
+        outcome = "the users file is changed, and then: %s" if is_done else "failed: %s"
+        session.alert = self.note(session.user, act.name, act.user, outcome % fault, of=begun)
+        told = "The users file is changed. Then a fault came: " if is_done else "Nothing was done: "
+        return told + self.words_of(fault), 409
+
+    def words_of(self, fault: Exception) -> str:
+        """Returns what whoever acts is told of a fault."""
+        return str(fault)
+
+    def kept(self) -> list[Kept]:
+        """Returns the secrets that this browser may see still: those whose tokens the users file has."""
+        found = ((kept, self.book.find(kept.user.encode())) for kept in self.keeper.all_of(self.cookie()))
+        return [kept for kept, user in found if user and user.token == kept.token.encode()]
 
     # ---- Pages
 
-    def warning(self):
+    def places_of(self, session: Session) -> Sequence[tuple[str, str]]:
+        """Returns the places that a session may go to."""
+        return self.places
+
+    def warning(self) -> str:
         """Returns what all pages of a session say."""
         return ""
 
-    def page(self, template, title, session=None, fault="", **told):
+    def unconfirmed(self, session: Session) -> list[Kept]:
+        """Returns the secrets to which all pages of a session lead."""
+        return []
+
+    def page(self, template: str, title: str, session: Session | None = None, fault: str = "", **told: Any) -> str:
         notice, alert = session.take_notice() if session else ("", "")
         fault = " ".join(text for text in (fault, alert) if text)
+        next_code = self.next_code(session) if session else 0
         return render_template(template, title=title, site=self, session=session, notice=notice, path=request.path,
-                               token=self.sessions.form_token(self.cookie()), fault=fault, **told)
+                               token=self.sessions.form_token(self.cookie()), fault=fault, next_code=next_code,
+                               wait=max(0, next_code - int(time.time())), **told)
 
-    def open_page(self, template, title, status=200, **told):
+    def open_page(self, template: str, title: str, status: int = 200, **told: Any) -> Response:
         """Returns a page for whoever comes. Its form wants a cookie, so the browser gets one."""
         name = self.cookie() or self.sessions.new_name()
         page = render_template(template, title=title, site=self, session=None, notice="", path=request.path,
@@ -147,50 +262,83 @@ class Pages:
             self.set_cookie(answer, name)
         return answer
 
-    def show_login(self, fault="", status=200):
-        return self.open_page("login.html", "Log in", status, fault=fault)
+    def show_login(self, fault: str = "", status: int = 200) -> Response:
+        return self.open_page("login.html", "Log in", status, fault=fault, next=own_path(request.values.get("next")))
 
-    def log_in(self):
+    def log_in(self) -> Response:
         if not self.is_own_form():
             return self.show_login(FOREIGN, 403)
         user = request.form.get("user", "")
-        _, told = self.ask(user, lambda: self.check_login(user))
-        return self.show_login(*told) if told else self.begin_session(user)
+        outcome, told = self.ask(user, lambda: self.check_login(user))
+        if told:
+            self.note_refusal(user, outcome)
+            return self.show_login(*told)
+        return self.begin_session(user, outcome)
 
-    def begin_session(self, user):
+    def begin_session(self, user: str, accepted: wakdulg.Accepted) -> Response:
+        """Begins a session under a new id: one that somebody planted before the login is worth nothing. What this
+        browser may see still goes with it."""
+        notice = self.greeting(user)
         if self.note(user, "log in", "", "done"):
             return self.show_login(NOT_IN, 503)
+        name = self.sessions.begin(user, self.row_of(user), accepted.factor, notice)
+        try:
+            self.keeper.move(self.cookie(), name)
+        except OSError as fault:
+            self.sessions.end(name)
+            return self.show_login(NOT_KEPT % type(fault).__name__, 503)
         self.sessions.end(self.cookie())
-        answer = redirect("/", 303)
-        # A new id: one that somebody planted before the login is worth nothing.
-        self.set_cookie(answer, self.sessions.begin(user, self.row_of(user)))
+        answer = redirect(own_path(request.form.get("next")) or "/", 303)
+        self.set_cookie(answer, name)
         return answer
 
-    def log_out(self):
+    def log_out(self) -> Response:
         session = self.posted()
         self.note(session.user, "log out", "", "done")
         return self.end_session(redirect("/login", 303))
 
-    def end_session(self, answer):
-        """Returns the answer with a cookie of no session."""
+    def end_session(self, answer: Response) -> Response:
+        """Returns the answer with a cookie of no session. Secrets that nobody confirmed are gone."""
+        self.keeper.forget_all(self.cookie())
         self.sessions.end(self.cookie())
         self.set_cookie(answer, self.sessions.new_name())
         return answer
 
-    def set_cookie(self, answer, name):
+    def set_cookie(self, answer: Response, name: str) -> None:
         answer.set_cookie(self.sessions.cookie, name, path="/", secure=True, httponly=True, samesite="Strict")
 
 
-def at_moment(seconds):
+def own_path(text: str | None) -> str:
+    """Returns a path of this site, or "" for what is none."""
+    return text if text and len(text) < 1000 and OWN_PATH.fullmatch(text) else ""
+
+
+def login_path() -> str:
+    """Returns the path of the login that leads back to the page that was asked for."""
+    path = own_path(request.full_path.removesuffix("?"))
+    return "/login?next=" + quote(path) if path not in ("", "/") else "/login"
+
+
+def at_moment(seconds: float) -> str:
     return time.strftime("%Y-%m-%d %H:%M:%S UTC", time.gmtime(seconds))
 
 
-def make_application(words, site, routes):
+def to_hex(name: str) -> str:
+    """Returns the name of a user as addresses have it."""
+    return name.encode().hex()
+
+
+def moment_of(line: Line) -> str:
+    """Returns the moment of a line of the record, as pages have moments."""
+    return str(line.get("when", "")).replace("T", " ").replace("Z", " UTC")
+
+
+def make_application(words: Any, site: Pages, routes: Iterable[tuple[str, Callable[..., Any], str]]) -> Flask:
     """Returns the application of a site. A route is a path, a view and a method. Static files are the helpdesk's."""
     application = Flask(site.name, root_path=words.folders[-1])
     application.config["MAX_CONTENT_LENGTH"], application.request_class = 2_000_000, Request
     application.jinja_loader = FileSystemLoader([folder + "/templates" for folder in words.folders])
-    application.jinja_env.filters["at_moment"] = at_moment
+    application.jinja_env.filters.update(at_moment=at_moment, moment_of=moment_of, to_hex=to_hex)
     application.jinja_env.trim_blocks = application.jinja_env.lstrip_blocks = True
     for path, view, method in routes:
         application.add_url_rule(path, method + path, view, methods=[method])
@@ -199,6 +347,6 @@ def make_application(words, site, routes):
     return application
 
 
-def with_headers(answer):
+def with_headers(answer: Response) -> Response:
     answer.headers.update(HEADERS)
     return answer

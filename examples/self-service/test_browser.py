@@ -10,6 +10,7 @@ import base64
 import re
 import subprocess
 import sys
+import threading
 import time
 from pathlib import Path
 
@@ -283,6 +284,28 @@ class Test:
         expect("the secret is shown", (status, shown and secret_of(shown[1]).hex()), ("303", self.row("ole")[3]))
         expect("and the fault", "The record could not be written" in page, True)
 
+    def killed(self):
+        """The service is killed amid a replacement: the browser gets the secret again, without a login."""
+        client, hold, una = Client(self.site), self.site.folder / "hold", self.tokens["una"]
+        expect("logged in", client.log_in(una), "303")
+        hold.touch()
+        replacing = threading.Thread(target=client.replace)
+        replacing.start()
+        await_that("the row is changed", lambda: self.row("una")[3] != una.secret.hex())
+        self.site.crash_desk()
+        hold.unlink()
+        replacing.join()
+        expect("the session is over", client.ask("/")[0], "303")
+        expect("the login leads to the secret", "Show the code" in client.ask("/login")[1], True)
+        shown = [re.search('id="secret">([^<]*)', client.ask("/phone")[1]) for _ in range(2)]
+        raw = bytes.fromhex(self.row("una")[3])
+        expect("which is shown until it is confirmed", [each and secret_of(each[1]) for each in shown], [raw] * 2)
+        expect("to this browser alone", Window(self.site).ask("/phone")[0], "303")
+        await_that("it is copied", lambda: (self.site.desk / "users.pending").exists(), False, 120)
+        settle(self.site)
+        told = client.post("/phone", code=by_oathtool("-c", "0", raw.hex()), password=una.password)
+        expect("confirmed", (told, client.ask("/phone")[0]), ("200", "303"))
+
     def late(self):
         """No code of the new phone is accepted for a while."""
         browser, joe = self.browser, self.tokens["joe"]
@@ -431,12 +454,12 @@ class Test:
         expect("the self-service had no fault", self.site.read("faults"), "")
 
 
-PARTS = ["off", "login", "resync", "replace", "time_token", "kind", "unrecorded", "late", "markup", "hostile",
+PARTS = ["off", "login", "resync", "replace", "time_token", "kind", "unrecorded", "killed", "late", "markup", "hostile",
          "not_copied", "down", "end"]
 
 
 def main():
-    names = "fay gus hal ida ann bob cid joe kim pia lea mia nia max ole pam sam".split() + [MARKUP]
+    names = "fay gus hal ida ann bob cid joe kim pia lea mia nia max ole pam una sam".split() + [MARKUP]
     tokens = {name: Token(name, name != "bob", "word-%d-of-a-user" % number) for number, name in enumerate(names)}
     tokens.update(dan=Token("dan"), eli=Token("eli", password="+"))
     tokens.update(tom=Token("tom", password="word-of-tom", type="HOTP/T60/8/SHA256"))

@@ -36,31 +36,39 @@ function searchWhileTyping(field) {
     });
 }
 
-// The table of the cluster, whenever the server has a new one.
+// The table of the cluster and its lists, whenever the server has new ones.
 function watchCluster(told) {
     const source = new EventSource(told.dataset.from), body = document.querySelector("#table tbody");
-    let said = told.textContent.replace(/ \(.*/, "");
+    const lists = document.getElementById("lists"), moment = document.getElementById("moment");
+
+    async function askForLists() {
+        const answer = await fetch(lists.dataset.from);
+        if (!answer.ok || lists.contains(document.activeElement)) return;
+        const page = new DOMParser().parseFromString(await answer.text(), "text/html");
+        lists.replaceChildren(...page.body.children);
+    }
+
     source.onmessage = (event) => {
-        const table = JSON.parse(event.data), says = table.said;
+        const table = JSON.parse(event.data);
         body.replaceChildren(...table.rows.map((row) => {
             const line = element("tr"), head = element("th", row[0]);
             head.scope = "row";
             line.append(head, ...row.slice(1).map((cell) => element("td", cell)));
             return line;
         }));
-        body.dataset.when = table.when;
+        moment.textContent = table.when;
         // A screen reader is told of changes alone.
-        if (says !== said) told.textContent = says + " (" + table.when + ")";
-        said = says;
+        if (told.textContent !== table.said) told.textContent = table.said;
+        askForLists();
     };
     source.addEventListener("over", () => { source.close(); location.reload(); });
     window.addEventListener("pagehide", () => source.close());
 }
 
-// Which members have what the users file says of a user, until all of them have it.
+// What the members say of a user, until nothing of it changes by time alone.
 function watchStates(part) {
-    const settled = document.getElementById("settled");
-    let left = 60;
+    const settled = document.getElementById("settled"), verdict = document.getElementById("verdict");
+    let left = 100;
 
     async function look() {
         const answer = await fetch(part.dataset.from);
@@ -71,21 +79,36 @@ function watchStates(part) {
     }
 
     function again() {
-        const table = part.querySelector("table"), text = table.dataset.settled;
-        if (settled.textContent !== text) settled.textContent = text;
-        if (table.querySelector("[data-done=no]") && --left > 0) setTimeout(look, 3000);
+        const told = part.querySelector("table").dataset;
+        if (settled.textContent !== told.settled) settled.textContent = told.settled;
+        if (verdict && verdict.textContent !== told.verdict) {
+            verdict.textContent = told.verdict;
+            verdict.className = "verdict " + told.word;
+        }
+        if (told.last === "no" && --left > 0) setTimeout(look, 3000);
     }
 
     again();
 }
 
-// A secret is shown once: Back brings a page without it.
+// Back brings a page that was asked for again.
 function forget(part) {
     window.addEventListener("pagehide", () => part.remove());
 }
 
+// How long it takes until the next code of whoever is logged in.
+function countDown(part) {
+    const until = Number(part.dataset.until);
+    const timer = setInterval(() => {
+        const left = Math.ceil(until - Date.now() / 1000);
+        part.textContent = left > 0 ? part.textContent.replace(/in \d+ s/, "in " + left + " s")
+            : "Your last code is used up. The next one is good now.";
+        if (left <= 0) clearInterval(timer);
+    }, 1000);
+}
+
 for (const [id, begin] of [["q", searchWhileTyping], ["told", watchCluster], ["states", watchStates],
-    ["once", forget]]) {
+    ["once", forget], ["wait", countDown]]) {
     const found = document.getElementById(id);
     if (found) begin(found);
 }
