@@ -231,23 +231,23 @@ class Book:
         threading.Thread(target=keep, daemon=True).start()
 
 
-def run_hook(words, patience):
-    """Returns whether a hook succeeded, and the end of what it said. One that takes too long is ended with all that it
-    began, so that none of it works on."""
+def run_hook(words: list[str], patience: float, text: str = "") -> tuple[bool, str]:
+    """Returns whether a hook succeeded, and the end of what it said. `text` is its standard input. One that takes too long
+    is ended with all that it began, so that none of it works on."""
     try:
-        hook = subprocess.Popen(words, stdin=subprocess.DEVNULL, stdout=subprocess.PIPE, stderr=subprocess.STDOUT,
+        hook = subprocess.Popen(words, stdin=subprocess.PIPE, stdout=subprocess.PIPE, stderr=subprocess.STDOUT,
                                 start_new_session=True)
     except OSError as fault:
         return False, type(fault).__name__
     try:
-        said = hook.communicate(timeout=patience)[0]
+        said = hook.communicate(text.encode(), timeout=patience)[0]
     except subprocess.TimeoutExpired:
         end_group(hook)
         return False, "the hook was ended after %d seconds" % patience
     return hook.returncode == 0, said.decode("utf-8", "replace").strip()[-500:]
 
 
-def end_group(leader, pause=3):
+def end_group(leader: subprocess.Popen[bytes], pause: float = 3) -> None:
     """Ends all processes of a group. They have some seconds to remove their files."""
     for number in signal.SIGTERM, signal.SIGKILL:
         with contextlib.suppress(ProcessLookupError):

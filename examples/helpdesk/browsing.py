@@ -166,6 +166,10 @@ class Browser:
 
     def log_in(self, token):
         self.open("/login")
+        self.fill_login(token)
+
+    def fill_login(self, token):
+        """Sends the form of the login that is shown."""
         self.fill("Name", token.name)
         if password_of(token):
             self.fill("Password", password_of(token))

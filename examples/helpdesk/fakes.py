@@ -1,6 +1,7 @@
 """What a trial of pages has in the place of a cluster and a browser: no node, no Chromium, the same requests."""
 from __future__ import annotations
 
+import html
 import logging
 import os
 import re
@@ -110,6 +111,7 @@ def words_of(make_sessions: Any, make_keeper: Any, **more: Any) -> Any:
     cluster, members, staff = Cluster(book), Members(), staff_of("staff")
     log = logging.getLogger("trial")
     log.setLevel(logging.CRITICAL)
+    more = {"tell": None, **more}
     return SimpleNamespace(origin=ORIGIN, desk=Desk(book, members, cluster, staff, "Example Site"), record=Record("record"),
                            sessions=make_sessions(), keeper=make_keeper(), staff="staff", login_log=log, table=Table(),
                            logs=SimpleNamespace(last=lambda user, count: []), users="users", **more)
@@ -140,8 +142,8 @@ class Browser:
 
     def send(self, path: str, **fields: Any) -> Browser:
         """Sends a form of the last page, with the fields that it hides."""
-        hidden = dict(re.findall(r'<input type="hidden" name="(\w+)" value="([^"]*)"', self.page))
-        return self.ask(path, {**hidden, **fields})
+        hidden = re.findall(r'<input type="hidden" name="(\w+)" value="([^"]*)"', self.page)
+        return self.ask(path, {**{name: html.unescape(text) for name, text in hidden}, **fields})
 
     def alert(self) -> str:
         return " ".join(" ".join(re.findall(r'role="alert" class="fault">([^<]*)', self.page)).split())

@@ -4,8 +4,11 @@ from __future__ import annotations
 import json
 import time
 from collections.abc import Callable, Iterator
+from itertools import islice
 from typing import Any
+from urllib.parse import urlencode
 
+import record_view
 import wakdulg
 import web
 from acts import KINDS, Act, Shown
@@ -23,7 +26,7 @@ from verdict import verdict
 from waiting import Asked, Waiting
 from web import NOT_BEGUN, NOT_KEPT, Stop, at_moment, moment_of, to_hex
 
-MOST_FOUND, MOST_LINES = 50, 10
+MOST_FOUND, MOST_LINES, MOST_ACTS = 50, 10, 200
 ACTS = {
     "unlock": ("Unlock", "All members forget the failures of this user. Whoever guesses can guess again."),
     "resync": ("Resynchronize", "Two codes in a row of the user's token set its counter. Both are used up."),
@@ -44,7 +47,7 @@ PENDING = "Pending since %s: not all members have the users file. It is copied a
 
 class Site(web.Pages):
     """What the helpdesk answers."""
-    name = "Helpdesk"
+    name, by = "Helpdesk", "by your helpdesk"
     places = [("/", "Search"), ("/enrol", "Enrol"), ("/import", "Import"), ("/waiting", "Waiting"),
               ("/cluster", "Cluster"), ("/record", "Record")]
 
@@ -96,7 +99,7 @@ class Site(web.Pages):
 
     def too_many(self, who: str) -> str:
         """Looks how many acts somebody began within an hour, as the record has it."""
-        moments = [line["when"] for line in self.record.acts(time.time() - HOUR) if line.get("who") == who
+        moments = [line["when"] for line in self.record.acts(time.time() - HOUR, who) if line.get("who") == who
                    and line.get("act") in COUNTED and not line.get("outcome", "").startswith(REFUSED)]
         if len(moments) < self.most_acts:
             return ""
@@ -224,8 +227,18 @@ class Site(web.Pages):
         return Response(tell(), content_type="text/event-stream", headers={"X-Accel-Buffering": "no"})
 
     def show_record(self) -> Any:
-        session = self.own_session()
-        return self.page("record.html", "What staff did", session, done=self.record.last(200))
+        session, query = self.own_session(), record_view.query_of(request.args)
+        done = list(islice((line for line in self.record.acts() if record_view.takes(query, line)), MOST_ACTS))
+        return self.page("record.html", "What staff did", session, done=done, query=query, words=record_view.ACTS,
+                         most=MOST_ACTS, export="/record.csv?" + urlencode(query))
+
+    def export_record(self) -> Any:
+        """Sends all acts that the filter takes, the latest first."""
+        self.own_session()
+        query = record_view.query_of(request.args)
+        found = (line for line in self.record.acts() if record_view.takes(query, line))
+        return Response(record_view.as_csv(found, self.outcome_of), content_type="text/csv; charset=utf-8",
+                        headers={"Content-Disposition": "attachment; filename=record.csv"})
 
     # ---- Acts
 
@@ -438,7 +451,8 @@ def make_application(words: Any) -> Flask:
     routes = [
         ("/", site.show_search, "GET"), ("/search.json", site.search, "GET"), ("/login", site.show_login, "GET"),
         ("/login", site.log_in, "POST"), ("/logout", site.log_out, "POST"), ("/cluster", site.show_cluster, "GET"),
-        ("/cluster/events", site.events, "GET"), ("/cluster/lists", site.show_lists, "GET"), ("/record", site.show_record, "GET"),
+        ("/cluster/events", site.events, "GET"), ("/cluster/lists", site.show_lists, "GET"),
+        ("/record", site.show_record, "GET"), ("/record.csv", site.export_record, "GET"),
         ("/enrol", site.show_enrol, "GET"), ("/enrol", site.enrol, "POST"), ("/import", site.show_import, "GET"),
         ("/import", site.dry_run, "POST"), ("/import/<name>", site.show_dry_run, "GET"),
         ("/import/<name>", site.do_import, "POST"), ("/users/<name>", site.show_user, "GET"),

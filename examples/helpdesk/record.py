@@ -12,11 +12,14 @@ import threading
 import time
 from collections import Counter
 from collections.abc import Iterator
+from itertools import islice
 from typing import Any, NamedTuple
 
 # A block that is read at once, and the bytes of a file at which the next line begins another file.
 BLOCK, MOST_BYTES = 1 << 20, 10_000_000
 BEGINS, REFUSED = "begins", "refused"
+# What each line begins with. The moment follows.
+WHEN = b'{"when": "'
 Line = dict[str, Any]
 
 
@@ -146,25 +149,27 @@ class Record:
 
     # ---- Read
 
-    def lines(self) -> Iterator[tuple[str, Line]]:
-        """Yields the lines with their prints, the latest first. What is no line of a record is passed over."""
+    def lines(self, since: float = 0, about: str = "") -> Iterator[tuple[str, Line]]:
+        """Yields the lines since a moment with their prints, the latest first: all, or those that have a text as the
+        whole of a field. What is no line of a record is passed over."""
+        begin, wanted = at_second(since).encode(), json.dumps(about).encode() if about else b""
         for line in lines_back(self.path):
-            try:
-                told = json.loads(line)
-            except ValueError:
+            if line.startswith(WHEN) and line[len(WHEN):len(WHEN) + len(begin)] < begin:
+                break
+            if wanted not in line:
                 continue
-            if isinstance(told, dict):
-                yield print_of(line), told
+            with contextlib.suppress(ValueError):
+                told = json.loads(line)
+                if isinstance(told, dict):
+                    yield print_of(line), told
 
-    def acts(self, since: float = 0) -> Iterator[Line]:
+    def acts(self, since: float = 0, about: str = "") -> Iterator[Line]:
         """Yields the acts since a moment, the latest first, each once: by the line of its outcome, or by that of its
-        begin if no line has its outcome."""
+        begin if no line has its outcome. `about` is as for `lines`."""
         ended: set[str] = set()
         # Former programs wrote no `before`, and didn't say whose outcome a line is.
         former: Counter[tuple[str, str, str]] = Counter()
-        for mark, line in self.lines():
-            if line.get("when", "") < at_second(since):
-                break
+        for mark, line in self.lines(since, about):
             key = line.get("who", ""), line.get("act", ""), line.get("user", "")
             if line.get("outcome") != BEGINS:
                 ended.add(line.get("of", ""))
@@ -177,15 +182,9 @@ class Record:
             else:
                 yield line
 
-    def last(self, count: int, user: str | None = None, most: int = 20_000) -> list[Line]:
-        """Returns the last acts, of one user or of all, the latest first. `most` acts are looked at."""
-        found: list[Line] = []
-        for number, line in enumerate(self.acts()):
-            if user is None or line.get("user") == user:
-                found.append(line)
-            if len(found) == count or number == most:
-                break
-        return found
+    def last(self, count: int, user: str) -> list[Line]:
+        """Returns the last acts on a user, the latest first."""
+        return list(islice((line for line in self.acts(about=user) if line.get("user") == user), count))
 
 
 # ---- Check

@@ -54,6 +54,7 @@ def parser_of(usage):
     for name in "key-file", "cluster", "users", "staff", "record", "issuer":
         parser.add_argument("--" + name, required=True)
     parser.add_argument("--push")
+    parser.add_argument("--tell")
     parser.add_argument("--patience", type=float, default=8.0)
     for name in "socket", "origin":
         parser.add_argument(name)

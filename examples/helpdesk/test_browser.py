@@ -20,7 +20,8 @@ import time
 from pathlib import Path
 
 sys.dont_write_bytecode = True
-sys.path.insert(0, str(Path(__file__).resolve().parent))
+HERE = Path(__file__).resolve().parent
+sys.path.insert(0, str(HERE))
 import browsing
 from browsing import Window, await_answer, await_that, expect, settle
 from trial_site import NODES, OATHTOOL, PLAIN_ADDRESS, Site, Token, read_rows, wakdulg
@@ -168,13 +169,16 @@ class Test:
         browser.press("Log in")
         expect("a wrong code", "That was not right" in browser.text("[role=alert]"), True)
         time.sleep(8)
+        await_that("a failed login is in the record", lambda: '"who": "sam", "act": "log in"' in self.site.read("desk/record"))
         planted = "planted" * 6
         browser.driver.delete_all_cookies()
         browser.driver.execute_cdp_cmd("Network.setCookie", {
             "name": "__Host-helpdesk", "value": planted, "url": self.site.url, "secure": True, "httpOnly": True,
             "path": "/"})
-        browser.log_in(self.sam)
-        expect("logged in", browser.path(), "/")
+        browser.open(place("ann"))
+        expect("a page without a session", browser.path(), "/login?next=" + place("ann"))
+        browser.fill_login(self.sam)
+        expect("the login leads there", browser.path(), place("ann"))
         cookie = browser.driver.get_cookie("__Host-helpdesk")
         expect("a new id", cookie["value"] != planted and len(cookie["value"]) == 43, True)
         flags = [cookie[flag] for flag in ("httpOnly", "secure", "sameSite", "path")]
@@ -321,6 +325,11 @@ class Test:
         first = browser.texts("tbody tr")[0]
         expect("the record", ("sam unlock bob" in first, "unlocked" in first), (True, True))
         browser.picture("record")
+        browser.fill("A part of the user's name", "bo")
+        browser.press("Show")
+        expect("of one user", {row.split(" ")[5] for row in browser.texts("tbody tr")}, {"bob"})
+        done = subprocess.run([HERE / "helpdesk-record", "check", self.site.desk / "record"], capture_output=True, text=True)
+        expect("its lines follow", (done.returncode, done.stdout.partition(" ")[2][:19]), (0, "lines, the last one"))
 
     def resync(self):
         """A counter that is far ahead."""

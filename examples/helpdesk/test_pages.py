@@ -6,6 +6,7 @@ The last line counts. OATHD is the program. Packages: python3-flask, python3-arg
 from __future__ import annotations
 
 import base64
+import csv
 import io
 import os
 import re
@@ -16,6 +17,7 @@ import time
 from pathlib import Path
 from typing import Any
 from unittest import mock
+from urllib.parse import urljoin, urlsplit
 
 import fakes
 from counting import expect, last_line
@@ -379,13 +381,100 @@ def limit() -> None:
         expect("after an hour", site.act(sam, "ann", "unlock").status, 303)
 
 
+def records() -> None:
+    """The page Record: a filter by user, staff and act, and an export for a spreadsheet."""
+    Path("users").write_text(Path("users").read_text() + "HOTP =1+1 - %040x\n" % 77)
+    site = Site()
+    sam, kim = site.log_in(), site.log_in("kim")
+    for browser, who, user, act in ((sam, "sam", "ann", "unlock"), (kim, "kim", "ann", "retire"), (sam, "sam", "bob", "unlock"),
+                                    (kim, "kim", "=1+1", "unlock")):
+        site.act(browser, user, act, who)
+    for query, wanted in (("user=AN", ["kim retire ann", "sam unlock ann"]), ("who=sa&act=unlock", ["sam unlock bob",
+                          "sam unlock ann"]), ("act=retire&user=bob", []), ("who=kim&act=log+in", ["kim log in "])):
+        rows = re.findall("<tr><td>[^<]*</td><td>([^<]*)</td><td>([^<]*)</td>\\s*<td>([^<]*)", sam.ask("/record?" + query).page)
+        expect(query, [" ".join(row) for row in rows], wanted)
+        lines = list(csv.DictReader(io.StringIO(sam.ask("/record.csv?" + query).page)))
+        expect("exported", [" ".join((line["who"], line["act"], line["user"])) for line in lines], wanted)
+    lines = list(csv.DictReader(io.StringIO(sam.ask("/record.csv?user==1").page)))
+    expect("no formula", (lines[0]["user"], lines[0]["from"]), ("'=1+1", "192.0.2.9"))
+    expect("as a file", sam.head["Content-Disposition"], "attachment; filename=record.csv")
+    expect("the export keeps the filter", 'href="/record.csv?user=an&amp;who=&amp;act="' in sam.ask("/record?user=an").page, True)
+    expect("without a session", Browser(site.application).ask("/record.csv").status, 303)
+
+
+def free_faults() -> None:
+    """What can be refused without the cluster costs no code."""
+    site = Site()
+    sam = site.log_in()
+    asked = site.cluster.asked
+    cases = [("/enrol", {"name": "", "kind": "hotp"}, "NoName"), ("/enrol", {"name": "new"}, "BadType"),
+             ("/enrol", {"name": "n ew", "kind": "hotp"}, "BadName"), ("/enrol", {"name": "ann", "kind": "totp"}, "DuplicateUser"),
+             ("/enrol", {"name": "kim", "kind": "totp"}, "Protected"), ("/enrol", {"name": "x" * 65, "kind": "totp"}, "NameTooLong"),
+             (place("kim", "replace"), {"kind": ""}, "Protected"), (place("kim", "retire"), {}, "Protected"),
+             (place("ann", "replace"), {"kind": "other"}, "BadType"),
+             (place("ann", "resync"), {"first": "12", "second": "000002"}, "BadCode"),
+             (place("ann", "resync"), {"first": "000001", "second": "000001"}, "SameCode")]
+    for path, fields, fault in cases:
+        sam.ask(path).send(path, code=site.code(), **fields)
+        expect("%s: %s" % (path.rpartition("/")[2], fault), (sam.status, fault in sam.alert(), "your code is good still" in sam.alert()),
+               (409, True, True))
+    Path("users").write_text(Path("users").read_text() + "HOTP bad - 1\n")
+    site.act(sam, "ann", "retire")
+    expect("a users file with a fault", (sam.status, "refuses the new file" in sam.alert()), (409, True))
+    expect("no code was asked for, and nothing begun", (site.cluster.asked, "begins" in outcomes()), (asked, False))
+    sam.ask("/enrol").send("/enrol", name="n ew", kind="hotp")
+    expect("the form keeps what was typed", ('value="n ew"' in sam.page, 'value="hotp" checked' in sam.page), (True, True))
+
+
+def next_codes() -> None:
+    """A form says when the next code of a time token is shown."""
+    Path("users").write_text(Path("users").read_text().replace("HOTP sam", "HOTP/T30 sam"))
+    site = Site()
+    now = 1_800_000_007
+    with mock.patch("time.time", lambda: now):
+        site.cluster.factors["sam"] = now // 30
+        sam = site.log_in()
+        page = " ".join(sam.ask(place("ann", "unlock")).page.split())
+        expect("after a login", "The next one comes in 23 s, at 2027-01-15 08:00:30 UTC." in page, True)
+        now += 23
+        expect("later", "Your last code" in sam.ask(place("ann", "unlock")).page, False)
+        site.cluster.factors["sam"] = now // 30 + 1
+        site.act(sam, "ann", "unlock")
+        page = " ".join(sam.ask("/enrol").page.split())
+        expect("after an act, of a phone that is ahead", "comes in 60 s" in page, True)
+        kim = site.log_in("kim")
+        expect("a device that counts", "Your last code" in kim.ask("/enrol").page, False)
+
+
+def deep_links() -> None:
+    """A login leads to the page that was asked for, and to no other site."""
+    site = Site()
+    for path in place("ann"), place("ann", "unlock"), "/record?user=an&act=unlock", "/?q=%C3%A4b":
+        browser = Browser(site.application).ask(path)
+        expect("from " + path, browser.place.startswith("/login?next="), True)
+        browser.ask(browser.place).send("/login", user="sam", password="wrong", code="0")
+        browser.send("/login", user="sam", password=PASSWORD, code=site.code())
+        expect("also after a wrong password", browser.place, path)
+    expect("from the start", Browser(site.application).ask("/").place, "/login")
+    for path in ("//evil.example", "https://evil.example/", "/\\evil.example", "/\t/evil.example", "\\evil", "javascript:alert(1)",
+                 "/%0d%0aSet-Cookie:x=y", "/x\r\nSet-Cookie: x=y", "evil.example", "///evil.example", "/.//evil.example", "/@evil",
+                 "/" + "a" * 1000, "/users/<b>", "http:evil"):
+        browser = Browser(site.application).ask("/login")
+        browser.send("/login", user="sam", password=PASSWORD, code=site.code(), next=path)
+        safe = browser.place == "/" or urlsplit(urljoin(fakes.ORIGIN + "/login", browser.place)).netloc == "helpdesk.example"
+        expect(repr(path[:30]), (browser.status, safe, "evil" in browser.place and browser.place != path),
+               (303, True, False))
+    told = Browser(site.application).ask("/login?next=//evil.example").page
+    expect("no form leads elsewhere", "evil" in told, False)
+
+
 def refused_logins() -> None:
     """Failed logins are in the record: by the names of staff alone."""
     site = Site()
     browser = Browser(site.application)
     for user, password, code in (("sam", "wrong", "000000"), ("sam", PASSWORD, "999999"), ("my own password", "x", "0")):
         browser.ask("/login").send("/login", user=user, password=password, code=code)
-    told = [(line["who"], line["act"], line["outcome"], line["from"]) for line in Record("record").last(3)]
+    told = [(line["who"], line["act"], line["outcome"], line["from"]) for line in Record("record").acts()]
     expect("each", told, [("", "log in", "refused: not staff", "192.0.2.9"), ("sam", "log in", "refused: INVALID", "192.0.2.9"),
                           ("sam", "log in", "refused: not a password", "192.0.2.9")])
     expect("no name that may be a password", "my own" in Path("record").read_text(), False)
@@ -402,8 +491,8 @@ def chained() -> None:
     expect("one row an act", page.count("<td>retire</td>"), 1)
 
 
-PARTS = [shown, killed, retire_killed, disk, looks, roles, staff_lines, two, two_ends, two_import, limit, refused_logins,
-         chained]
+PARTS = [shown, killed, retire_killed, disk, looks, roles, staff_lines, two, two_ends, two_import, limit, records,
+         free_faults, next_codes, deep_links, refused_logins, chained]
 HASH = HASHER.hash(PASSWORD)
 
 

@@ -12,6 +12,7 @@ import signal
 import subprocess
 import sys
 import tempfile
+import time
 from pathlib import Path
 from unittest import mock
 
@@ -149,7 +150,11 @@ def acts() -> None:
     expect("each once", seen, [("ann", "replaced"), ("ann", "refused: the second code"), ("bob", "replaced"),
                                ("ann", "begins")])
     expect("of one user", [line["outcome"] for line in record.last(9, "bob")], ["replaced"])
-    expect("of the last ones", len(record.last(2)), 2)
+    expect("the last ones", [line["outcome"] for line in record.last(2, "ann")], ["replaced", "refused: the second code"])
+    record.write("sam", "log in", "", "done", "-")
+    expect("with a text in a field", [line["act"] for line in record.acts(about="sam")].count("log in"), 1)
+    expect("which is the whole of it", list(record.acts(about="sa")), [])
+    expect("since a moment", (len(list(record.acts(time.time() - 100))), list(record.acts(time.time() + 100))), (5, []))
 
 
 def former() -> None:

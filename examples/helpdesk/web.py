@@ -1,8 +1,10 @@
 """What the pages of a site share: who asks, which forms are ours, how an act is made, and what the browser is told."""
 from __future__ import annotations
 
+import contextlib
 import io
 import re
+import shlex
 import threading
 import time
 from collections.abc import Callable, Iterable, Sequence
@@ -12,6 +14,7 @@ from urllib.parse import quote
 import flask
 import wakdulg
 from acts import Act
+from book import run_hook
 from flask import Flask, Response, redirect, render_template, request
 from jinja2 import FileSystemLoader
 from keeping import Kept
@@ -21,6 +24,8 @@ from tokens import Fault
 
 # A refusal takes this many seconds, so its time doesn't tell who exists.
 REFUSAL = 1.0
+# The hook that tells a user something is ended after this number of seconds.
+TELLING = 60
 NOT_RIGHT = "That was not right, or was used before, or came too soon. Wait for some seconds, and give the next code."
 UNDECIDED = "The cluster doesn't decide now. Try again in a minute, with the next code."
 FOREIGN = "Use the form of this page. Load it again, and repeat."
@@ -62,14 +67,16 @@ def address() -> str:
 
 
 class Pages:
-    """A site. Its name stands in titles, and its places in the navigation of whoever is logged in."""
-    name = ""
+    """A site. Its name stands in titles, and its places in the navigation of whoever is logged in. `by` is what a user is
+    told of who replaced the phone."""
+    name, by = "", ""
     places: Sequence[tuple[str, str]] = ()
 
     def __init__(self, words: Any) -> None:
         self.origin, self.desk, self.sessions, self.keeper = words.origin, words.desk, words.sessions, words.keeper
         self.book, self.cluster = words.desk.book, words.desk.cluster
         self.record, self.login_log, self.beginning = words.record, words.login_log, threading.Lock()
+        self.teller = shlex.split(words.tell or "")
 
     # ---- Who asks
 
@@ -198,7 +205,22 @@ class Pages:
             return self.failed(session, act, path, begun, fault)
         session.notice = "%s: %s." % (act.user if act.name != "import" else "Import", outcome)
         session.alert = self.note(session.user, act.name, act.user, outcome, of=begun, **more)
+        if act.name == "replace":
+            self.tell(act.user, "Your phone was replaced at %s %s." % (at_moment(time.time()), self.by_whom()))
         return "", 303
+
+    def by_whom(self) -> str:
+        return self.by
+
+    def tell(self, user: str, what: str) -> None:
+        """Has the hook tell a user what happened, in a thread: nobody waits for it. The record has its failure."""
+        def run() -> None:
+            is_done, said = run_hook(self.teller, TELLING, "%s\n%s\n" % (user, what))
+            if not is_done:
+                with contextlib.suppress(OSError):
+                    self.record.write("", "tell", user, "failed: the user isn't told: " + said, "-")
+        if self.teller:
+            threading.Thread(target=run, daemon=True).start()
 
     def begin(self, who: str, act: Act, **more: str) -> tuple[str, tuple[str, int] | None]:
         """Notes that an act begins. Returns the print of the line, and None or a fault and its status. An act that can't
