@@ -159,7 +159,7 @@ class Desk:
         self.protect(name)
         token = new_token(name, form.get("kind", ""))
         return self.edited("enrol", name, with_rows([token]), "enrolled", adds=self.book.name_of(token),
-                           shown=self.shown_of(token))
+                           shown=self.shown_of(token), rows=[(name, token.type_word())])
 
     def import_rows(self, tokens: list[Token]) -> Act:
         names = ", ".join(token.user for token in tokens[:20]) + (" .." if len(tokens) > 20 else "")

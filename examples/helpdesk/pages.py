@@ -41,6 +41,7 @@ ASKED = "It waits for another one of staff until %s."
 LOST = "The browser of %s has the new secret no more. Nothing was done. Ask for it again."
 # The acts that two of staff make if the site says so, and the acts whose number in an hour is limited.
 OF_TWO = frozenset({"replace", "import"})
+RETIRED = (BEGINS, "retired", "the users file is changed")
 COUNTED, HOUR = ROLES["all"], 3600
 PENDING = "Pending since %s: not all members have the users file. It is copied again by itself. %s"
 
@@ -247,7 +248,15 @@ class Site(web.Pages):
         and its status."""
         if refusal := self.hindrance(session.user) or self.second_code(session, act):
             return refusal
-        return self.ask_another(session, act) if act.name in self.of_two else self.carry_out(session, act)
+        return self.ask_another(session, act) if self.wants_two(act) else self.carry_out(session, act)
+
+    def wants_two(self, act: Act) -> bool:
+        """Returns whether an act wants another one of staff. A user who was retired and is enrolled again has a new phone,
+        as after a replacement."""
+        if act.name != "enrol" or not self.of_two:
+            return act.name in self.of_two
+        done = self.record.last(MOST_ACTS, act.user)
+        return any(line.get("act") == "retire" and line.get("outcome", "").startswith(RETIRED) for line in done)
 
     def second_code(self, session: Session, act: Act) -> tuple[str, int] | None:
         outcome, refusal = self.ask(session.user, lambda: self.check_code(session.user))
@@ -259,7 +268,7 @@ class Site(web.Pages):
 
     def path_after(self, act: Act) -> str:
         """Returns the page that follows an act."""
-        if act.name in self.of_two:
+        if self.wants_two(act):
             return "/waiting"
         page = "/secret" if act.shown else "/retired" if act.name == "retire" else ""
         return "/" if act.name == "import" else "/users/%s%s" % (to_hex(act.user), page)
@@ -324,8 +333,8 @@ class Site(web.Pages):
 
     @staticmethod
     def title_of(asked: Asked) -> str:
-        what = "Import: " if asked.act.name == "import" else ACTS[asked.act.name][0] + ": "
-        return what + asked.act.user
+        titles = {**{act: words[0] for act, words in ACTS.items()}, "import": "Import", "enrol": "Enrol"}
+        return "%s: %s" % (titles[asked.act.name], asked.act.user)
 
     def show_waiting(self) -> Any:
         session = self.own_session()

@@ -323,6 +323,20 @@ def two() -> None:
     expect("a second time", kim.send(path, code=site.code("kim")).status, 404)
 
 
+def two_enrol() -> None:
+    """To retire a user and to enrol the name again is a replacement: it takes two as well."""
+    site = Site(two_of_staff=True)
+    sam, kim = site.log_in(), site.log_in("kim")
+    sam.ask("/enrol").send("/enrol", name="new", kind="hotp", code=site.code())
+    expect("a new name", (sam.place, secret_of("new") is not None), (place("new", "secret"), True))
+    site.act(sam, "ann", "retire")
+    sam.ask("/enrol").send("/enrol", name="ann", kind="hotp", code=site.code())
+    expect("one who was retired", (sam.place, secret_of("ann")), ("/waiting", None))
+    path = re.search('href="(/waiting/[^"]*)"', kim.ask("/waiting").page)[1]
+    kim.ask(path).send(path, code=site.code("kim"))
+    expect("confirmed", (kim.status, sam.ask(place("ann", "secret")).secret()), (303, secret_of("ann")))
+
+
 def two_ends() -> None:
     """What waits ends: after an hour, after a change of the row, with the right or the secret of the first one."""
     for what, status in (("an hour", 404), ("another row", 409), ("no right", 403), ("logged out", 409), ("a restart", 404)):
@@ -491,7 +505,7 @@ def chained() -> None:
     expect("one row an act", page.count("<td>retire</td>"), 1)
 
 
-PARTS = [shown, killed, retire_killed, disk, looks, roles, staff_lines, two, two_ends, two_import, limit, records,
+PARTS = [shown, killed, retire_killed, disk, looks, roles, staff_lines, two, two_enrol, two_ends, two_import, limit, records,
          free_faults, next_codes, deep_links, refused_logins, chained]
 HASH = HASHER.hash(PASSWORD)
 
