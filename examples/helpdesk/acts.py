@@ -37,8 +37,8 @@ class Shown:
 
 class Act(NamedTuple):
     """An act that is ready: what can be refused without the cluster was looked at. `run` does it, and returns its
-    outcome. `adds` and `takes` are the names of the tokens whose rows the users file has afterwards, or hasn't any more.
-    `shown` is the new secret. `rows` has the user and the type of each row that is new."""
+    outcome. `adds` is the name of a token whose row the users file has afterwards, and `takes` that of one whose row it
+    hasn't any more. `shown` is the new secret. `rows` has the user and the type of each row that is new."""
     name: str
     user: str
     run: Callable[[], str]
@@ -104,7 +104,9 @@ class Desk:
 
     def __init__(self, book: Book, members: Members | None, cluster: wakdulg.Cluster, staff: Callable[[], set[str]],
                  issuer: str) -> None:
-        self.book, self.members, self.cluster, self.staff, self.issuer = book, members, cluster, staff, issuer
+        self.book, self.cluster, self.staff, self.issuer = book, cluster, staff, issuer
+        # A site without an operator's key has none, and no act that wants them.
+        self.members: Any = members
 
     def protect(self, name: str) -> None:
         """Refuses to change the row of a member of staff: who could do that could act in that name."""
@@ -162,18 +164,19 @@ class Desk:
                            shown=self.shown_of(token), rows=[(name, token.type_word())])
 
     def import_rows(self, tokens: list[Token]) -> Act:
-        names = ", ".join(token.user for token in tokens[:20]) + (" .." if len(tokens) > 20 else "")
-        for token in tokens:
-            self.protect(token.user)
-        return self.edited("import", names, with_rows(tokens), "added %d user%s" % (len(tokens), "s" * (len(tokens) > 1)),
-                           adds=self.book.name_of(tokens[0]),
-                           rows=[(token.user or "", token.type_word()) for token in tokens])
+        rows = [(token.user or "", token.type_word()) for token in tokens]
+        for name, _ in rows:
+            self.protect(name)
+        names = ", ".join(name for name, _ in rows[:20]) + (" .." if len(rows) > 20 else "")
+        done = "added %d user%s" % (len(rows), "s" * (len(rows) > 1))
+        return self.edited("import", names, with_rows(tokens), done, adds=self.book.name_of(tokens[0]), rows=rows)
 
     def check_import(self, data: bytes, secret_form: str, kind: str | None) -> tuple[list[Token], list[str]]:
         """Returns the tokens of a CSV file, and each fault of it. `oathd check` reads the rows that they would have."""
         words = ImportWords(secret_form, kind)
         found, _ = lists.read_csv(data, "file", words, words)
-        faults, good = [], []
+        faults: list[str] = []
+        good: list[Token] = []
         for each in found:
             try:
                 if isinstance(each, Fault):
@@ -188,9 +191,9 @@ class Desk:
         return good, sorted(faults + twice, key=line_of) + self.oathd_faults(good)
 
     def oathd_faults(self, tokens: list[Token]) -> list[str]:
-        """Returns what `oathd check` says of the rows alone, one fault after the other: not too many, since each costs a run
-        over all rows."""
-        rows, faults = [(token, token.row("-")) for token in tokens], []
+        """Returns what `oathd check` says of the rows alone, one fault after the other: not too many, since each costs a
+        run over all rows."""
+        rows, faults = [(token, token.row("-")) for token in tokens], list[str]()
         if len(rows) > MOST_ROWS:
             return ["the file: TooMany: it has %d rows, and a users file has %d at most" % (len(rows), MOST_ROWS)]
         while rows and len(faults) < MOST_FAULTS:

@@ -232,8 +232,8 @@ class Book:
 
 
 def run_hook(words: list[str], patience: float, text: str = "") -> tuple[bool, str]:
-    """Returns whether a hook succeeded, and the end of what it said. `text` is its standard input. One that takes too long
-    is ended with all that it began, so that none of it works on."""
+    """Returns whether a hook succeeded, and the end of what it said. `text` is its standard input. One that takes too
+    long is ended with all that it began, so that none of it works on."""
     try:
         hook = subprocess.Popen(words, stdin=subprocess.PIPE, stdout=subprocess.PIPE, stderr=subprocess.STDOUT,
                                 start_new_session=True)

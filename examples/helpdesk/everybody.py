@@ -34,8 +34,8 @@ def text_of(name: bytes) -> str:
 
 
 def locked_now(gates: Mapping[int, Sequence[Gate]], now: int) -> Names:
-    """Returns who is locked, with the members, the seconds until the first one opens and the greatest number of failures
-    in a row. `gates` has what each member told."""
+    """Returns who is locked, with the members, the seconds until the first one opens and the greatest number of
+    failures in a row. `gates` has what each member told."""
     found: dict[bytes, list[tuple[int, Gate]]] = {}
     for member, told in gates.items():
         for gate in told:
@@ -94,9 +94,10 @@ class Everybody:
         rosters = self.told(self.roster_of)
         self.book.refresh()
         users, silent = self.book.users, sorted({each.number for each in self.members.all} - set(rosters))
-        when = min((time.time() - time.monotonic() + self.rosters[number][1] for number in rosters), default=time.time())
-        return Lists(locked_now(gates, int(time.time())), not_in_place(users, rosters),
-                     never_used(users, rosters, count), silent, count, int(when))
+        age = max((time.monotonic() - self.rosters[number][1] for number in rosters), default=0)
+        now = time.time()
+        return Lists(locked_now(gates, int(now)), not_in_place(users, rosters), never_used(users, rosters, count),
+                     silent, count, int(now - age))
 
     def told(self, call: Callable[[Member], Any]) -> dict[int, Any]:
         """Returns what members told, by their numbers. Silent ones aren't in it."""

@@ -27,7 +27,14 @@ from tokens import read_rows
 
 OATHD = os.environ.get("OATHD", str(TOP / "oathd"))
 ORIGIN = "https://helpdesk.example"
-CLUSTER = "names trial-of-pages\nlife 1\nkey-file key\nnew-tokens fresh\nmember 1 127.0.0.1:9\nmember 2 127.0.0.1:10\nmember 3 127.0.0.1:11\n"
+CLUSTER = """names trial-of-pages
+life 1
+key-file key
+new-tokens fresh
+member 1 127.0.0.1:9
+member 2 127.0.0.1:10
+member 3 127.0.0.1:11
+"""
 
 
 class Killed(BaseException):
@@ -38,7 +45,8 @@ class Cluster:
     """Accepts the codes 000000, 000001 .. of each user once, in their order, with the password of the row."""
 
     def __init__(self, book: Book) -> None:
-        self.book, self.next, self.asked, self.factors = book, Counter[str](), 0, {}
+        self.book, self.next, self.asked = book, Counter[str](), 0
+        self.factors: dict[str, int] = {}
 
     def code(self, user: str) -> str:
         """Returns the next code of a user's phone."""
@@ -102,18 +110,21 @@ class Table:
     """The table of a cluster that is well."""
 
     def now(self) -> tuple[int, dict[str, Any]]:
-        return 1, {"rows": [["1/3", "7", "all", "9", "aa", "bb", "ok"]], "said": "", "status": 0, "when": "00:00:00 UTC"}
+        rows = [["1/3", "7", "all", "9", "aa", "bb", "ok"]]
+        return 1, {"rows": rows, "said": "", "status": 0, "when": "00:00:00 UTC"}
 
 
 def words_of(make_sessions: Any, make_keeper: Any, **more: Any) -> Any:
     """Returns the words of a site over the files of the present folder, as its process has them after a start."""
     book = Book("users", OATHD, ClusterFile("cluster"), "true")
-    cluster, members, staff = Cluster(book), Members(), staff_of("staff")
+    cluster: Any = Cluster(book)
+    members: Any = Members()
     log = logging.getLogger("trial")
     log.setLevel(logging.CRITICAL)
     more = {"tell": None, **more}
-    return SimpleNamespace(origin=ORIGIN, desk=Desk(book, members, cluster, staff, "Example Site"), record=Record("record"),
-                           sessions=make_sessions(), keeper=make_keeper(), staff="staff", login_log=log, table=Table(),
+    desk = Desk(book, members, cluster, staff_of("staff"), "Example Site")
+    return SimpleNamespace(origin=ORIGIN, desk=desk, record=Record("record"), sessions=make_sessions(),
+                           keeper=make_keeper(), staff="staff", login_log=log, table=Table(),
                            logs=SimpleNamespace(last=lambda user, count: []), users="users", **more)
 
 
@@ -126,7 +137,8 @@ class Browser:
     """A browser with one cookie, for which an application answers."""
 
     def __init__(self, application: Any) -> None:
-        self.application, self.cookie, self.page, self.status, self.place, self.head = application, "", "", 0, "", {}
+        self.application, self.cookie, self.page, self.status, self.place = application, "", "", 0, ""
+        self.head: Any = {}
 
     def ask(self, path: str, data: dict[str, Any] | None = None) -> Browser:
         """Asks for a page, or sends a form. Returns itself, with the answer."""

@@ -116,8 +116,8 @@ class Site(web.Pages):
     def user_of(self, name: str, is_retired: bool = False) -> User:
         """Returns the user of a path. With `is_retired` it may be one of no row."""
         try:
-            name = bytes.fromhex(name)
-            user = self.book.find(name) or (User(name) if is_retired else None)
+            raw = bytes.fromhex(name)
+            user = self.book.find(raw) or (User(raw) if is_retired else None)
         except ValueError:
             user = None
         if user is None:
@@ -244,15 +244,15 @@ class Site(web.Pages):
     # ---- Acts
 
     def perform(self, session: Session, act: Act) -> tuple[str, int]:
-        """Does an act after the second code of staff, or asks another one of staff for it. Returns "" and 303, or a fault
-        and its status."""
+        """Does an act after the second code of staff, or asks another one of staff for it. Returns "" and 303, or a
+        fault and its status."""
         if refusal := self.hindrance(session.user) or self.second_code(session, act):
             return refusal
         return self.ask_another(session, act) if self.wants_two(act) else self.carry_out(session, act)
 
     def wants_two(self, act: Act) -> bool:
-        """Returns whether an act wants another one of staff. A user who was retired and is enrolled again has a new phone,
-        as after a replacement."""
+        """Returns whether an act wants another one of staff. A user who was retired and is enrolled again has a new
+        phone, as after a replacement."""
         if act.name != "enrol" or not self.of_two:
             return act.name in self.of_two
         done = self.record.last(MOST_ACTS, act.user)

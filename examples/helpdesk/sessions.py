@@ -13,8 +13,8 @@ if TYPE_CHECKING:
 
 
 class Session:
-    """What the process knows of one login: the user, the mark of a row, the last factor that the cluster accepted of the
-    user, its ends, and what its pages show."""
+    """What the process knows of one login: the user, the mark of a row, the last factor that the cluster accepted of
+    the user, its ends, and what its pages show."""
 
     def __init__(self, user: str, row: bytes, factor: int | None, now: float, idle: float, longest: float) -> None:
         self.user, self.row, self.factor = user, row, factor

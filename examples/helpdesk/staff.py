@@ -22,9 +22,8 @@ def check_staff(path: str, least: int = 0) -> None:
     """Raises a fault if a line has no password, or a role that isn't there, or if fewer than `least` may import."""
     for number, line in lines_of(path):
         if not LINE.fullmatch(line):
-            fields = line.split()
-            what = "no password: make it by staff-line NAME" if len(fields) < 2 or not fields[1].startswith("$argon2id$") \
-                else "no role of " + ", ".join(ROLES)
+            has_password = line.split()[1:2] and line.split()[1].startswith("$argon2id$")
+            what = "no role of " + ", ".join(ROLES) if has_password else "no password: make it by staff-line NAME"
             raise ValueError("line %d of %s has %s" % (number, path, what))
     if sum(rights >= ROLES["all"] for rights in rights_of(path).values()) < least:
         raise ValueError("%s has fewer than %d with the role all: nobody could confirm an import" % (path, least))

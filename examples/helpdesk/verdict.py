@@ -10,7 +10,8 @@ from members import State
 
 
 class Verdict(NamedTuple):
-    """`word` is "can", "locked", "pending", "retired" or "unseen". `is_settled` is whether it changes by no time alone."""
+    """A sentence. `word` is "can", "locked", "pending", "retired" or "unseen". `is_settled` is whether no time alone
+    changes it."""
     word: str
     text: str
     is_settled: bool = True
@@ -26,7 +27,10 @@ def members_of(states: Sequence[State]) -> str:
 
 def lasting(seconds: int) -> str:
     """Returns a number of seconds in words: "5 s", "3 min", "2 h"."""
-    return "%d s" % seconds if seconds < 120 else "%d min" % (seconds // 60) if seconds < 7200 else "%d h" % (seconds // 3600)
+    for size, unit in (3600, "h"), (60, "min"):
+        if seconds >= 2 * size:
+            return "%d %s" % (seconds // size, unit)
+    return "%d s" % seconds
 
 
 def at_time(second: int) -> str:
@@ -50,7 +54,8 @@ class Look:
 
     def rests(self, *parts: str) -> str:
         """Returns what is to be added of members that can't be seen."""
-        said = "%s %s silent" % (members_of(self.silent), "is" if len(self.silent) == 1 else "are") if self.silent else ""
+        verb = "is" if len(self.silent) == 1 else "are"
+        said = "%s %s silent" % (members_of(self.silent), verb) if self.silent else ""
         return "".join("; " + part for part in (*parts, said) if part) + "."
 
     def opens(self, states: Sequence[State]) -> str:
@@ -58,8 +63,8 @@ class Look:
         return "opens in %s" % lasting(first.until - self.now)
 
     def begin(self) -> int:
-        """Returns the second from which a code of a time token counts, or 0 for an event token. A code counts if its step
-        is no lower than the floors of a majority of all members."""
+        """Returns the second from which a code of a time token counts, or 0 for an event token. A code counts if its
+        step is no lower than the floors of a majority of all members."""
         floors = sorted(state.floor for state in self.done)
         return floors[self.most - 1] * (self.user.period() or 0)
 
@@ -107,6 +112,7 @@ def in_force(look: Look) -> Verdict:
         return Verdict("locked", locked[:1].upper() + locked[1:] + look.rests(late), False)
     begin = look.begin()
     if begin > look.now:
-        when = "%s, in %s: earlier ones are used up, or the token is new" % (at_time(begin), lasting(begin - look.now))
-        return Verdict("can", "Can log in: the first code that counts comes at " + when + look.rests(locked, late), False)
+        text = "Can log in: the first code that counts comes at %s, in %s: earlier ones are used up, or the token is new"
+        text %= at_time(begin), lasting(begin - look.now)
+        return Verdict("can", text + look.rests(locked, late), False)
     return Verdict("can", "Can log in" + look.rests(locked, late), is_settled)

@@ -7,7 +7,7 @@ import re
 import shlex
 import threading
 import time
-from collections.abc import Callable, Iterable, Sequence
+from collections.abc import Callable, Sequence
 from typing import Any
 from urllib.parse import quote
 
@@ -21,6 +21,7 @@ from keeping import Kept
 from record import BEGINS, Line
 from sessions import Session, is_same
 from tokens import Fault
+from werkzeug.wrappers import Response as Answer
 
 # A refusal takes this many seconds, so its time doesn't tell who exists.
 REFUSAL = 1.0
@@ -67,8 +68,8 @@ def address() -> str:
 
 
 class Pages:
-    """A site. Its name stands in titles, and its places in the navigation of whoever is logged in. `by` is what a user is
-    told of who replaced the phone."""
+    """A site. Its name stands in titles, and its places in the navigation of whoever is logged in. `by` is what a user
+    is told of who replaced the phone."""
     name, by = "", ""
     places: Sequence[tuple[str, str]] = ()
 
@@ -134,6 +135,7 @@ class Pages:
         """Returns what a call of the cluster returned or raised, and None or the text and the status of its refusal.
         The log has the answer."""
         begin, told = time.monotonic(), None
+        outcome: Any
         try:
             outcome = call()
         except wakdulg.Refused as refusal:
@@ -223,8 +225,8 @@ class Pages:
             threading.Thread(target=run, daemon=True).start()
 
     def begin(self, who: str, act: Act, **more: str) -> tuple[str, tuple[str, int] | None]:
-        """Notes that an act begins. Returns the print of the line, and None or a fault and its status. An act that can't
-        be noted isn't begun."""
+        """Notes that an act begins. Returns the print of the line, and None or a fault and its status. An act that
+        can't be noted isn't begun."""
         with self.beginning:
             if hindrance := self.hindrance(who):
                 return "", hindrance
@@ -274,7 +276,7 @@ class Pages:
                                token=self.sessions.form_token(self.cookie()), fault=fault, next_code=next_code,
                                wait=max(0, next_code - int(time.time())), **told)
 
-    def open_page(self, template: str, title: str, status: int = 200, **told: Any) -> Response:
+    def open_page(self, template: str, title: str, status: int = 200, **told: Any) -> Answer:
         """Returns a page for whoever comes. Its form wants a cookie, so the browser gets one."""
         name = self.cookie() or self.sessions.new_name()
         page = render_template(template, title=title, site=self, session=None, notice="", path=request.path,
@@ -284,10 +286,10 @@ class Pages:
             self.set_cookie(answer, name)
         return answer
 
-    def show_login(self, fault: str = "", status: int = 200) -> Response:
+    def show_login(self, fault: str = "", status: int = 200) -> Answer:
         return self.open_page("login.html", "Log in", status, fault=fault, next=own_path(request.values.get("next")))
 
-    def log_in(self) -> Response:
+    def log_in(self) -> Answer:
         if not self.is_own_form():
             return self.show_login(FOREIGN, 403)
         user = request.form.get("user", "")
@@ -297,7 +299,7 @@ class Pages:
             return self.show_login(*told)
         return self.begin_session(user, outcome)
 
-    def begin_session(self, user: str, accepted: wakdulg.Accepted) -> Response:
+    def begin_session(self, user: str, accepted: wakdulg.Accepted) -> Answer:
         """Begins a session under a new id: one that somebody planted before the login is worth nothing. What this
         browser may see still goes with it."""
         notice = self.greeting(user)
@@ -314,19 +316,19 @@ class Pages:
         self.set_cookie(answer, name)
         return answer
 
-    def log_out(self) -> Response:
+    def log_out(self) -> Answer:
         session = self.posted()
         self.note(session.user, "log out", "", "done")
         return self.end_session(redirect("/login", 303))
 
-    def end_session(self, answer: Response) -> Response:
+    def end_session(self, answer: Answer) -> Answer:
         """Returns the answer with a cookie of no session. Secrets that nobody confirmed are gone."""
         self.keeper.forget_all(self.cookie())
         self.sessions.end(self.cookie())
         self.set_cookie(answer, self.sessions.new_name())
         return answer
 
-    def set_cookie(self, answer: Response, name: str) -> None:
+    def set_cookie(self, answer: Answer, name: str) -> None:
         answer.set_cookie(self.sessions.cookie, name, path="/", secure=True, httponly=True, samesite="Strict")
 
 
@@ -355,7 +357,7 @@ def moment_of(line: Line) -> str:
     return str(line.get("when", "")).replace("T", " ").replace("Z", " UTC")
 
 
-def make_application(words: Any, site: Pages, routes: Iterable[tuple[str, Callable[..., Any], str]]) -> Flask:
+def make_application(words: Any, site: Pages, routes: Sequence[tuple[str, Any, str]]) -> Flask:
     """Returns the application of a site. A route is a path, a view and a method. Static files are the helpdesk's."""
     application = Flask(site.name, root_path=words.folders[-1])
     application.config["MAX_CONTENT_LENGTH"], application.request_class = 2_000_000, Request
@@ -369,6 +371,6 @@ def make_application(words: Any, site: Pages, routes: Iterable[tuple[str, Callab
     return application
 
 
-def with_headers(answer: Response) -> Response:
+def with_headers(answer: Answer) -> Answer:
     answer.headers.update(HEADERS)
     return answer

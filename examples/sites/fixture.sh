@@ -109,7 +109,7 @@ make_root() {
         begin 'debootstrap'
         logs=("$work/debootstrap.log")
         suite=${SUITE:-$(. /etc/os-release; echo "$VERSION_CODENAME")}
-        debootstrap --include=systemd,dbus,man-db,bash-completion,gunicorn,python3-flask,python3-argon2 "$suite" "$base" \
+        debootstrap --include=systemd,dbus,man-db,bash-completion,gunicorn,python3-flask,python3-argon2,python3-cryptography "$suite" "$base" \
             ${MIRROR:+"$MIRROR"} > "$work/debootstrap.log"
     fi
     step='a Debian of its own'
