@@ -169,7 +169,8 @@ class Test:
         browser.press("Log in")
         expect("a wrong code", "That was not right" in browser.text("[role=alert]"), True)
         time.sleep(8)
-        await_that("a failed login is in the record", lambda: '"who": "sam", "act": "log in"' in self.site.read("desk/record"))
+        failed = '"who": "sam", "act": "log in", "user": "", "outcome": "refused: INVALID"'
+        await_that("a failed login is in the record", lambda: failed in self.site.read("desk/record"))
         planted = "planted" * 6
         browser.driver.delete_all_cookies()
         browser.driver.execute_cdp_cmd("Network.setCookie", {
@@ -302,6 +303,44 @@ class Test:
         expect("no login", window.log_in(self.tokens["lou"]), "403")
         staff.write_text(text)
 
+    def roles(self):
+        """One of staff who may only look."""
+        window, staff, row = Window(self.site), self.site.desk / "staff", self.row("ann")
+        text = staff.read_text()
+        staff.write_text(re.sub("(?m)^(lou .*)$", r"\1 look", text))
+        expect("lou logs in", window.log_in(self.tokens["lou"]), "303")
+        body = window.ask(place("ann"))[1]
+        expect("and sees a user without acts", ("At the members" in body, place("ann", "retire") in body), (True, False))
+        told = [window.ask(path)[0] for path in (place("ann", "retire"), "/enrol", "/import")]
+        told += [window.post(path, seen="0", code=self.tokens["lou"].code()) for path in (place("ann", "retire"), "/enrol")]
+        expect("no act", (told, self.row("ann")), (["403"] * 5, row))
+        staff.write_text(text)
+
+    def two(self):
+        """Two of staff replace a phone: one asks, another one confirms, and the first one's browser shows the secret."""
+        browser, kim, old = self.browser, Window(self.site), self.row("zed")
+        self.site.restart_desk("--two-of-staff")
+        browser.log_in(self.sam)
+        self.act("zed", "Replace the phone")
+        said = "It waits for another one of staff until" in browser.text("[role=status]")
+        expect("it waits", (browser.path(), said, self.row("zed")), ("/waiting", True, old))
+        browser.picture("waiting")
+        browser.expect_narrow("waiting")
+        browser.press("Replace the phone: zed")
+        expect("the first one has no form", browser.driver.find_elements(By.CSS_SELECTOR, "main form"), [])
+        expect("kim logs in", kim.log_in(self.kim), "303")
+        status, body = kim.ask(browser.path())
+        expect("and confirms", (status, kim.post(browser.path(), code=self.kim.code())), ("200", "303"))
+        browser.open("/")
+        browser.press("The new phone of zed")
+        expect("the secret", browser.text("#secret").replace(" ", ""), base32_of(self.row("zed")))
+        expect("kim doesn't see it", "has no new secret" in kim.ask(place("zed", "secret"))[1], True)
+        browser.press("The phone has it")
+        settle(self.site)
+        expect("the new phone", self.answer("zed", self.code_of("zed", 0)), "OK 0")
+        self.site.restart_desk()
+        browser.log_in(self.sam)
+
     def unlock(self):
         """Failures at all members, seen and forgotten."""
         browser = self.browser
@@ -328,7 +367,8 @@ class Test:
         browser.fill("A part of the user's name", "bo")
         browser.press("Show")
         expect("of one user", {row.split(" ")[5] for row in browser.texts("tbody tr")}, {"bob"})
-        done = subprocess.run([HERE / "helpdesk-record", "check", self.site.desk / "record"], capture_output=True, text=True)
+        words = [HERE / "helpdesk-record", "check", self.site.desk / "record"]
+        done = subprocess.run(words, capture_output=True, text=True)
         expect("its lines follow", (done.returncode, done.stdout.partition(" ")[2][:19]), (0, "lines, the last one"))
 
     def resync(self):
@@ -378,8 +418,8 @@ class Test:
         expect("Back doesn't show it", (secret in browser.driver.page_source, browser.path()),
                (False, place(name, "secret")))
         browser.open(place(name, "secret"))
-        expect("then it is shown no more", (secret in browser.driver.page_source, "has no new secret" in browser.text()),
-               (False, True))
+        told = secret in browser.driver.page_source, "has no new secret" in browser.text()
+        expect("then it is shown no more", told, (False, True))
 
     def replace(self):
         """A new phone: the old one is refused."""
@@ -424,7 +464,8 @@ class Test:
             await_that("what one member has", settled, "1 of 3 members have the row: pending.")
             says = browser.texts("#states tbody td:nth-child(2)")
             expect("what each member has", says, ["yes", "another token", "another token"])
-            expect("the verdict", browser.text("#verdict"), "Pending at members 2 and 3: an old phone may still get in.")
+            verdict = browser.text("#verdict")
+            expect("the verdict", verdict, "Pending at members 2 and 3: an old phone may still get in.")
             browser.picture("pending")
             browser.open("/cluster")
             expect("in the list", browser.texts("#lacking a"), ["joe"])
@@ -460,7 +501,8 @@ class Test:
         hold.unlink()
         browser.log_in(self.sam)
         browser.open(place("una"))
-        expect("what is told", "its end isn't known: the users file has the new row." in browser.text(".unfinished"), True)
+        told = browser.text(".unfinished")
+        expect("what is told", "its end isn't known: the users file has the new row." in told, True)
         browser.picture("killed")
         browser.open("/record")
         expect("also in the record", "its end isn't known: the users file has" in browser.texts("tbody tr")[1], True)
@@ -620,7 +662,8 @@ class Test:
         browser.expect_narrow("cluster-lists")
         window = Window(self.site)
         window.cookie = browser.cookie()
-        expect("without JavaScript", re.findall(r'id="moment">\d\d:\d\d:\d\d UTC<', window.ask("/cluster")[1]) != [], True)
+        found = re.search(r'id="moment">\d\d:\d\d:\d\d UTC<', window.ask("/cluster")[1])
+        expect("without JavaScript", found is not None, True)
         self.act("wes", "Unlock")
         expect("the verdict", browser.text("#verdict"), "Can log in.")
         browser.open("/cluster")
@@ -663,11 +706,12 @@ class Test:
 
 
 PARTS = ["login", "search", "ten_thousand", "unlock", "resync", "enrol", "in_time", "replace", "kinds", "retire",
-         "imports", "markup", "hostile", "staff_goes", "lists", "cluster", "pending", "killed", "unrecorded", "narrow", "logout"]
+         "imports", "markup", "hostile", "staff_goes", "roles", "two", "lists", "cluster", "pending", "killed",
+         "unrecorded", "narrow", "logout"]
 
 
 def main():
-    names = ("sam", "kim", "lou", "ann", "bob", "cid", "dora", "fay", "gus", "joe", "lea", "max", "una", "wes", MARKUP)
+    names = ("sam", "kim", "lou", "ann", "bob", "cid", "dora", "fay", "gus", "joe", "lea", "max", "una", "wes", "zed", MARKUP)
     tokens = {name: Token(name, is_event=name != "bob") for name in names}
     tokens.update(tom=Token("tom", type="HOTP/T60/8/SHA256"), eli=Token("eli", type="HOTP/E/8"))
     return browsing.run(__doc__, "trial/helpdesk", PARTS, lambda folder: Site(folder, tokens.values(), names[:3]),

@@ -321,8 +321,16 @@ class Site:
             with contextlib.suppress(ProcessLookupError):
                 os.kill(number, signal.SIGKILL)
         process.wait()
-        (self.desk / "socket").unlink()
-        self.start_desk()
+        self.start_again()
+
+    def restart_desk(self, *more_words):
+        """Ends the service, and starts it again with other words."""
+        self.stop("desk")
+        self.start_again(*more_words)
+
+    def start_again(self, *more_words):
+        (self.desk / "socket").unlink(missing_ok=True)
+        self.start_desk(*more_words)
         self.await_that(lambda: self.curl("/login")[0] == "200", "the site answers again")
 
     def stop(self, name):

@@ -112,7 +112,7 @@ def in_force(look: Look) -> Verdict:
         return Verdict("locked", locked[:1].upper() + locked[1:] + look.rests(late), False)
     begin = look.begin()
     if begin > look.now:
-        text = "Can log in: the first code that counts comes at %s, in %s: earlier ones are used up, or the token is new"
-        text %= at_time(begin), lasting(begin - look.now)
-        return Verdict("can", text + look.rests(locked, late), False)
+        text = "Can log in: the first code that counts comes at %s, in %s" % (at_time(begin), lasting(begin - look.now))
+        why = ": earlier ones are used up, or the token is new"
+        return Verdict("can", text + why + look.rests(locked, late), False)
     return Verdict("can", "Can log in" + look.rests(locked, late), is_settled)

@@ -32,7 +32,8 @@ class UsersSite(Site):
     host = "self-service.example"
 
     def desk_words(self):
-        return [HERE / "self-service", "--allow", "resync", "--allow", "replace", "--late", LATE]
+        tell = "sh -c 'cat >> %s/told'" % self.desk
+        return [HERE / "self-service", "--allow", "resync", "--allow", "replace", "--late", LATE, "--tell", tell]
 
 
 class Client(Window):
@@ -196,6 +197,13 @@ class Test:
         print("in use %.0f s after the click" % (time.monotonic() - begin))
         expect("the old phone", self.answer("ann", ann.code()), "INVALID")
         expect("the next code of the new phone", self.answer("ann", by_oathtool("-c", "1", raw.hex())), "OK 1")
+        await_that("the hook tells her", lambda: (self.site.desk / "told").exists(), True, 60)
+        expect("what", self.site.read("desk/told").startswith("ann\nYour phone was replaced at 20"), True)
+        window = Window(self.site)
+        window.ask("/login")
+        form = self.form(window, user="ann", password=ann.password, code=by_oathtool("-c", "2", raw.hex()))
+        expect("a login by the new phone", window.ask("/login", *form)[0], "303")
+        expect("says so too", "Your phone was replaced at 20" in window.ask("/")[1], True)
 
     def prove(self, token):
         """Fills what shows that the user has the old phone."""
