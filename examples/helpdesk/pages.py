@@ -4,7 +4,7 @@ from __future__ import annotations
 import json
 import time
 from collections.abc import Callable, Iterator
-from itertools import islice
+from itertools import islice, takewhile
 from typing import Any
 from urllib.parse import urlencode
 
@@ -167,7 +167,8 @@ class Site(web.Pages):
     def done_to(self, user: User) -> dict[str, Any]:
         """Returns what a page tells of the acts on a user."""
         done = self.record.last(MOST_LINES, user.text)
-        return {"done": done, "unfinished": [line for line in done if line.get("outcome") == BEGINS]}
+        latest = takewhile(lambda line: not is_settling(line), done)
+        return {"done": done, "unfinished": [line for line in latest if line.get("outcome") == BEGINS]}
 
     def show_user(self, name: str) -> Any:
         session, user = self.own_session(), self.user_of(name)
@@ -452,6 +453,12 @@ class Site(web.Pages):
             return self.show_dry_run(name, told, status)
         session.imports = {}
         return redirect(self.path_after(ready), 303)
+
+
+def is_settling(line: Line) -> bool:
+    """Returns whether an act says what holds of a row, whatever was lost midway before it."""
+    is_done = not str(line.get("outcome")).startswith((BEGINS, REFUSED, "failed"))
+    return is_done and line.get("act") in ("enrol", "replace", "retire", "confirm")
 
 
 def make_application(words: Any) -> Flask:

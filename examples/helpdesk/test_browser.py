@@ -310,14 +310,35 @@ class Test:
         staff.write_text(re.sub("(?m)^(lou .*)$", r"\1 look", text))
         expect("lou logs in", window.log_in(self.tokens["lou"]), "303")
         body = window.ask(place("ann"))[1]
-        expect("and sees a user without acts", ("At the members" in body, place("ann", "retire") in body), (True, False))
+        told = "At the members" in body, place("ann", "retire") in body
+        expect("and sees a user without acts", told, (True, False))
         told = [window.ask(path)[0] for path in (place("ann", "retire"), "/enrol", "/import")]
-        told += [window.post(path, seen="0", code=self.tokens["lou"].code()) for path in (place("ann", "retire"), "/enrol")]
+        told += [window.post(path, seen="0", code="000000") for path in (place("ann", "retire"), "/enrol")]
         expect("no act", (told, self.row("ann")), (["403"] * 5, row))
         staff.write_text(text)
 
+    def wait(self):
+        """A form says how long it takes until the next code of a time token, and counts down."""
+        browser, lou = self.browser, self.tokens["lou"]
+        browser.open("/")
+        browser.press("Log out sam")
+        time.sleep(31 - time.time() % 30)
+        browser.log_in(lou)
+        browser.open(place("ann", "unlock"))
+        seconds = lambda: int((re.findall(r"in (\d+) s", browser.text("#wait")) or ["0"])[0])
+        first = seconds()
+        expect("less than a step", 0 < first < 30, True)
+        browser.picture("wait")
+        await_that("it counts down", lambda: 0 < seconds() < first, True, 30)
+        await_that("then the next code is good", lambda: "good now" in browser.text("#wait"), True, 60)
+        browser.fill("Your own next code", lou.code())
+        browser.press("Unlock")
+        expect("an act by it", "ann: member 1: unlocked" in browser.text("[role=status]"), True)
+        browser.press("Log out lou")
+        browser.log_in(self.sam)
+
     def two(self):
-        """Two of staff replace a phone: one asks, another one confirms, and the first one's browser shows the secret."""
+        """Two of staff replace a phone: one asks, another one confirms, and the first one's browser has the secret."""
         browser, kim, old = self.browser, Window(self.site), self.row("zed")
         self.site.restart_desk("--two-of-staff")
         browser.log_in(self.sam)
@@ -706,13 +727,14 @@ class Test:
 
 
 PARTS = ["login", "search", "ten_thousand", "unlock", "resync", "enrol", "in_time", "replace", "kinds", "retire",
-         "imports", "markup", "hostile", "staff_goes", "roles", "two", "lists", "cluster", "pending", "killed",
+         "imports", "markup", "hostile", "staff_goes", "roles", "wait", "two", "lists", "cluster", "pending", "killed",
          "unrecorded", "narrow", "logout"]
 
 
 def main():
-    names = ("sam", "kim", "lou", "ann", "bob", "cid", "dora", "fay", "gus", "joe", "lea", "max", "una", "wes", "zed", MARKUP)
-    tokens = {name: Token(name, is_event=name != "bob") for name in names}
+    names = ("sam", "kim", "lou", "ann", "bob", "cid", "dora", "fay", "gus", "joe", "lea", "max", "una", "wes", "zed",
+             MARKUP)
+    tokens = {name: Token(name, is_event=name not in ("bob", "lou")) for name in names}
     tokens.update(tom=Token("tom", type="HOTP/T60/8/SHA256"), eli=Token("eli", type="HOTP/E/8"))
     return browsing.run(__doc__, "trial/helpdesk", PARTS, lambda folder: Site(folder, tokens.values(), names[:3]),
                         lambda site, browser: Test(site, tokens, browser))

@@ -80,7 +80,12 @@ def begin(folder: str) -> None:
     Path("cluster").write_text(CLUSTER)
     Path("key").write_text("0c" * 32)
     Path("staff").write_text("".join("%s %s\n" % (name, HASH) for name in STAFF))
-    Path("users").write_text("".join("HOTP %s - %040x\n" % (name, number + 1) for number, name in enumerate(STAFF + USERS)))
+    Path("users").write_text(rows_of(*STAFF, *USERS))
+
+
+def rows_of(*names: str) -> str:
+    """Returns the text of a users file with a row for each name."""
+    return "".join("HOTP %s - %040x\n" % (name, number) for number, name in enumerate(names, 1))
 
 
 def secret_of(name: str) -> str | None:
@@ -132,7 +137,8 @@ def shown() -> None:
 def killed() -> None:
     """The process is killed at each point of an act: what holds is told, and a secret that is in force is shown."""
     site = Site()
-    for point, is_in, words in (("record.Record.write", False, None), ("book.Book.check", False, "hasn&#39;t the new row"),
+    for point, is_in, words in (("record.Record.write", False, None),
+                                ("book.Book.check", False, "hasn&#39;t the new row"),
                                 ("book.Book.set_mark", False, "hasn&#39;t the new row"),
                                 ("book.Book.copy", True, "has the new row")):
         for name, act, fields in (("ann", "replace", {"kind": ""}), ("new", "enrol", {"name": "new", "kind": "hotp"})):
@@ -149,6 +155,10 @@ def killed() -> None:
                 expect("what is told", ("its end isn&#39;t known: the users file " + words in record,
                                         words in page if act == "replace" or is_in else True), (True, True))
             expect("the secret", sam.ask(place(name, "secret")).secret(), secret_of(name) if is_in else "")
+            if is_in:
+                sam.send(place(name, "seen"))
+                told = ['class="fault unfinished"' in text for text in (page, sam.ask(place(name)).page)]
+                expect("until the phone has it", told, [True, False])
             Path("record").unlink()
             site.start()
             if is_in and act == "enrol":
@@ -209,8 +219,8 @@ def disk() -> None:
     site.start()
     site.log_in(browser=sam)
     expect("also after a restart", sam.ask(place("ann", "secret")).secret(), secret_of("ann"))
-    expect("and the record tells", "its end isn&#39;t known: the users file has the new row" in sam.ask(place("ann")).page,
-           True)
+    told = "its end isn&#39;t known: the users file has the new row" in sam.ask(place("ann")).page
+    expect("and the record tells", told, True)
     with mock.patch("book.sync_folder"), mock.patch("users_file.sync_folder", side_effect=OSError("a fault")):
         site.act(sam, "bob", "replace", kind="")
     expect("a fault after the change", "The users file is changed" in sam.alert(), True)
@@ -254,8 +264,7 @@ def roles() -> None:
         ("sam", "look"), ("kim", "unlock"), ("lou", "enrol"), ("max", "all"), ("old", ""))))
     site, table = Site(), {"unlock": "kim lou max old", "resync": "kim lou max old", "replace": "lou max old",
                            "retire": "lou max old", "enrol": "lou max old", "import": "max old"}
-    Path("users").write_text("".join("HOTP %s - %040x\n" % (name, number) for number, name in enumerate(
-        ("sam", "kim", "lou", "max", "old", "ann"), 1)))
+    Path("users").write_text(rows_of("sam", "kim", "lou", "max", "old", "ann"))
     for name in ("sam", "kim", "lou", "max", "old"):
         browser = site.log_in(name)
         page = browser.ask(place("ann")).page
@@ -285,7 +294,8 @@ def staff_lines() -> None:
     Path("staff").write_text("sam %s\nkim %s enrol\n" % (HASH, HASH))
     expect("two are needed", "fewer than 2" in fault_of(lambda: check_staff("staff", 2)), True)
     for role, status in ("look", 0), ("all", 0), ("boss", 1):
-        done = subprocess.run([HERE / "staff-line", "zoe", role], input="a long password\n", capture_output=True, text=True)
+        words = [HERE / "staff-line", "zoe", role]
+        done = subprocess.run(words, input="a long password\n", capture_output=True, text=True)
         expect("staff-line " + role, (done.returncode, done.stdout.endswith(" %s\n" % role)), (status, not status))
 
 
@@ -302,9 +312,10 @@ def two() -> None:
     site, before = Site(two_of_staff=True), secret_of("ann")
     sam, kim = site.log_in(), site.log_in("kim")
     site.act(sam, "ann", "replace", kind="")
-    expect("nothing is done", (sam.place, secret_of("ann"), outcomes()[0]), ("/waiting", before, "asks another one of staff"))
-    expect("the first one sees that it waits", "asked for by sam. It waits for" in " ".join(sam.ask(place("ann")).page.split()),
-           True)
+    expect("nothing is done", (sam.place, secret_of("ann")), ("/waiting", before))
+    expect("and the record says so", outcomes()[0], "asks another one of staff")
+    page = " ".join(sam.ask(place("ann")).page.split())
+    expect("the first one sees that it waits", "asked for by sam. It waits for" in page, True)
     expect("and no secret", sam.ask(place("ann", "secret")).secret(), "")
     path = re.search('href="(/waiting/[^"]*)"', kim.ask("/waiting").page)[1]
     expect("the first one has no form", "<button>Confirm" in sam.ask(path).page, False)
@@ -339,7 +350,8 @@ def two_enrol() -> None:
 
 def two_ends() -> None:
     """What waits ends: after an hour, after a change of the row, with the right or the secret of the first one."""
-    for what, status in (("an hour", 404), ("another row", 409), ("no right", 403), ("logged out", 409), ("a restart", 404)):
+    for what, status in (("an hour", 404), ("another row", 409), ("no right", 403), ("logged out", 409),
+                         ("a restart", 404)):
         begin(os.getcwd())
         site = Site(two_of_staff=True)
         sam, kim, before = site.log_in(), site.log_in("kim"), secret_of("ann")
@@ -384,8 +396,8 @@ def limit() -> None:
     site.act(sam, "ann", "unlock")
     asked = site.cluster.asked
     site.act(sam, "ann", "unlock")
-    expect("the fourth", (sam.status, site.cluster.asked, "You began 3 acts within an hour. The next one is" in sam.alert()),
-           (429, asked, True))
+    said = "You began 3 acts within an hour. The next one is" in sam.alert()
+    expect("the fourth", (sam.status, site.cluster.asked, said), (429, asked, True))
     site.act(kim, "ann", "unlock", "kim")
     expect("of another one", kim.status, 303)
     site.start()
@@ -400,19 +412,21 @@ def records() -> None:
     Path("users").write_text(Path("users").read_text() + "HOTP =1+1 - %040x\n" % 77)
     site = Site()
     sam, kim = site.log_in(), site.log_in("kim")
-    for browser, who, user, act in ((sam, "sam", "ann", "unlock"), (kim, "kim", "ann", "retire"), (sam, "sam", "bob", "unlock"),
-                                    (kim, "kim", "=1+1", "unlock")):
+    for browser, who, user, act in ((sam, "sam", "ann", "unlock"), (kim, "kim", "ann", "retire"),
+                                    (sam, "sam", "bob", "unlock"), (kim, "kim", "=1+1", "unlock")):
         site.act(browser, user, act, who)
     for query, wanted in (("user=AN", ["kim retire ann", "sam unlock ann"]), ("who=sa&act=unlock", ["sam unlock bob",
                           "sam unlock ann"]), ("act=retire&user=bob", []), ("who=kim&act=log+in", ["kim log in "])):
-        rows = re.findall("<tr><td>[^<]*</td><td>([^<]*)</td><td>([^<]*)</td>\\s*<td>([^<]*)", sam.ask("/record?" + query).page)
+        row = "<tr><td>[^<]*</td><td>([^<]*)</td><td>([^<]*)</td>\\s*<td>([^<]*)"
+        rows = re.findall(row, sam.ask("/record?" + query).page)
         expect(query, [" ".join(row) for row in rows], wanted)
         lines = list(csv.DictReader(io.StringIO(sam.ask("/record.csv?" + query).page)))
         expect("exported", [" ".join((line["who"], line["act"], line["user"])) for line in lines], wanted)
     lines = list(csv.DictReader(io.StringIO(sam.ask("/record.csv?user==1").page)))
     expect("no formula", (lines[0]["user"], lines[0]["from"]), ("'=1+1", "192.0.2.9"))
     expect("as a file", sam.head["Content-Disposition"], "attachment; filename=record.csv")
-    expect("the export keeps the filter", 'href="/record.csv?user=an&amp;who=&amp;act="' in sam.ask("/record?user=an").page, True)
+    page = sam.ask("/record?user=an").page
+    expect("the export keeps the filter", 'href="/record.csv?user=an&amp;who=&amp;act="' in page, True)
     expect("without a session", Browser(site.application).ask("/record.csv").status, 303)
 
 
@@ -422,22 +436,25 @@ def free_faults() -> None:
     sam = site.log_in()
     asked = site.cluster.asked
     cases = [("/enrol", {"name": "", "kind": "hotp"}, "NoName"), ("/enrol", {"name": "new"}, "BadType"),
-             ("/enrol", {"name": "n ew", "kind": "hotp"}, "BadName"), ("/enrol", {"name": "ann", "kind": "totp"}, "DuplicateUser"),
-             ("/enrol", {"name": "kim", "kind": "totp"}, "Protected"), ("/enrol", {"name": "x" * 65, "kind": "totp"}, "NameTooLong"),
+             ("/enrol", {"name": "n ew", "kind": "hotp"}, "BadName"),
+             ("/enrol", {"name": "ann", "kind": "totp"}, "DuplicateUser"),
+             ("/enrol", {"name": "kim", "kind": "totp"}, "Protected"),
+             ("/enrol", {"name": "x" * 65, "kind": "totp"}, "NameTooLong"),
              (place("kim", "replace"), {"kind": ""}, "Protected"), (place("kim", "retire"), {}, "Protected"),
              (place("ann", "replace"), {"kind": "other"}, "BadType"),
              (place("ann", "resync"), {"first": "12", "second": "000002"}, "BadCode"),
              (place("ann", "resync"), {"first": "000001", "second": "000001"}, "SameCode")]
     for path, fields, fault in cases:
         sam.ask(path).send(path, code=site.code(), **fields)
-        expect("%s: %s" % (path.rpartition("/")[2], fault), (sam.status, fault in sam.alert(), "your code is good still" in sam.alert()),
-               (409, True, True))
+        told = sam.status, fault in sam.alert(), "your code is good still" in sam.alert()
+        expect("%s: %s" % (path.rpartition("/")[2], fault), told, (409, True, True))
     Path("users").write_text(Path("users").read_text() + "HOTP bad - 1\n")
     site.act(sam, "ann", "retire")
     expect("a users file with a fault", (sam.status, "refuses the new file" in sam.alert()), (409, True))
     expect("no code was asked for, and nothing begun", (site.cluster.asked, "begins" in outcomes()), (asked, False))
     sam.ask("/enrol").send("/enrol", name="n ew", kind="hotp")
-    expect("the form keeps what was typed", ('value="n ew"' in sam.page, 'value="hotp" checked' in sam.page), (True, True))
+    kept = 'value="n ew"' in sam.page, 'value="hotp" checked' in sam.page
+    expect("the form keeps what was typed", kept, (True, True))
 
 
 def next_codes() -> None:
@@ -470,14 +487,14 @@ def deep_links() -> None:
         browser.send("/login", user="sam", password=PASSWORD, code=site.code())
         expect("also after a wrong password", browser.place, path)
     expect("from the start", Browser(site.application).ask("/").place, "/login")
-    for path in ("//evil.example", "https://evil.example/", "/\\evil.example", "/\t/evil.example", "\\evil", "javascript:alert(1)",
-                 "/%0d%0aSet-Cookie:x=y", "/x\r\nSet-Cookie: x=y", "evil.example", "///evil.example", "/.//evil.example", "/@evil",
-                 "/" + "a" * 1000, "/users/<b>", "http:evil"):
+    for path in ("//evil.example", "https://evil.example/", "/\\evil.example", "/\t/evil.example", "\\evil",
+                 "javascript:alert(1)", "/%0d%0aSet-Cookie:x=y", "/x\r\nSet-Cookie: x=y", "evil.example", "///evil.example",
+                 "/.//evil.example", "/@evil", "/" + "a" * 1000, "/users/<b>", "http:evil"):
         browser = Browser(site.application).ask("/login")
         browser.send("/login", user="sam", password=PASSWORD, code=site.code(), next=path)
-        safe = browser.place == "/" or urlsplit(urljoin(fakes.ORIGIN + "/login", browser.place)).netloc == "helpdesk.example"
-        expect(repr(path[:30]), (browser.status, safe, "evil" in browser.place and browser.place != path),
-               (303, True, False))
+        where = urlsplit(urljoin(fakes.ORIGIN + "/login", browser.place))
+        expect(repr(path[:30]), (browser.status, where.scheme, where.netloc, browser.place in ("/", path)),
+               (303, "https", "helpdesk.example", True))
     told = Browser(site.application).ask("/login?next=//evil.example").page
     expect("no form leads elsewhere", "evil" in told, False)
 
@@ -486,11 +503,12 @@ def refused_logins() -> None:
     """Failed logins are in the record: by the names of staff alone."""
     site = Site()
     browser = Browser(site.application)
-    for user, password, code in (("sam", "wrong", "000000"), ("sam", PASSWORD, "999999"), ("my own password", "x", "0")):
+    for user, password, code in (("sam", "wrong", "000000"), ("sam", PASSWORD, "999999"),
+                                 ("my own password", "x", "0")):
         browser.ask("/login").send("/login", user=user, password=password, code=code)
     told = [(line["who"], line["act"], line["outcome"], line["from"]) for line in Record("record").acts()]
-    expect("each", told, [("", "log in", "refused: not staff", "192.0.2.9"), ("sam", "log in", "refused: INVALID", "192.0.2.9"),
-                          ("sam", "log in", "refused: not a password", "192.0.2.9")])
+    expect("each", told, [(who, "log in", "refused: " + why, "192.0.2.9") for who, why in (
+        ("", "not staff"), ("sam", "INVALID"), ("sam", "not a password"))])
     expect("no name that may be a password", "my own" in Path("record").read_text(), False)
 
 
@@ -505,8 +523,8 @@ def chained() -> None:
     expect("one row an act", page.count("<td>retire</td>"), 1)
 
 
-PARTS = [shown, killed, retire_killed, disk, looks, roles, staff_lines, two, two_enrol, two_ends, two_import, limit, records,
-         free_faults, next_codes, deep_links, refused_logins, chained]
+PARTS = [shown, killed, retire_killed, disk, looks, roles, staff_lines, two, two_enrol, two_ends, two_import, limit,
+         records, free_faults, next_codes, deep_links, refused_logins, chained]
 HASH = HASHER.hash(PASSWORD)
 
 

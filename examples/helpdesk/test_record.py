@@ -150,7 +150,8 @@ def acts() -> None:
     expect("each once", seen, [("ann", "replaced"), ("ann", "refused: the second code"), ("bob", "replaced"),
                                ("ann", "begins")])
     expect("of one user", [line["outcome"] for line in record.last(9, "bob")], ["replaced"])
-    expect("the last ones", [line["outcome"] for line in record.last(2, "ann")], ["replaced", "refused: the second code"])
+    last = [line["outcome"] for line in record.last(2, "ann")]
+    expect("the last ones", last, ["replaced", "refused: the second code"])
     record.write("sam", "log in", "", "done", "-")
     expect("with a text in a field", [line["act"] for line in record.acts(about="sam")].count("log in"), 1)
     expect("which is the whole of it", list(record.acts(about="sa")), [])

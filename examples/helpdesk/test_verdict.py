@@ -99,14 +99,15 @@ CASES = [
     # A time token
     (TIME, [yes(1, STEP), yes(2, STEP), yes(3, STEP)], "can", "Can log in."),
     (TIME, [yes(1, STEP + 2), yes(2, STEP + 2), yes(3, STEP + 2)], "can",
-     "Can log in: the first code that counts comes at 08:01:00 UTC, in 60 s: earlier ones are used up, or the token is new."),
+     "Can log in: the first code that counts comes at 08:01:00 UTC, in 60 s: earlier ones are used up, or the token is"
+     " new."),
     (TIME, [yes(1, STEP), yes(2, STEP), yes(3, STEP + 9)], "can", "Can log in."),
     (TIME, [yes(1, STEP), yes(2, STEP + 10), silent(3)], "can",
-     "Can log in: the first code that counts comes at 08:05:00 UTC, in 5 min: earlier ones are used up, or the token is new;"
-     " member 3 is silent."),
+     "Can log in: the first code that counts comes at 08:05:00 UTC, in 5 min: earlier ones are used up, or the token is"
+     " new; member 3 is silent."),
     (TIME, [yes(1, STEP + 1), yes(2, STEP + 1), yes(3, STEP + 1, NOW + 5)], "can",
-     "Can log in: the first code that counts comes at 08:00:30 UTC, in 30 s: earlier ones are used up, or the token is new;"
-     " locked at member 3, opens in 5 s."),
+     "Can log in: the first code that counts comes at 08:00:30 UTC, in 30 s: earlier ones are used up, or the token is"
+     " new; locked at member 3, opens in 5 s."),
     (EVENT, [yes(1, 10 ** 9), yes(2, 10 ** 9), yes(3, 10 ** 9)], "can", "Can log in."),
 ]
 
@@ -142,10 +143,12 @@ def all_states() -> None:
 
 def everybody() -> None:
     """Who is locked, whose row isn't in place, and who never logged in, of what three members told."""
-    gates = {1: [Gate(b"bob", 2, NOW + 9), Gate(b"ann", 1, NOW)], 3: [Gate(b"bob", 1, NOW + 5), Gate(b"cid", 4, NOW + 60)]}
+    gates = {1: [Gate(b"bob", 2, NOW + 9), Gate(b"ann", 1, NOW)],
+             3: [Gate(b"bob", 1, NOW + 5), Gate(b"cid", 4, NOW + 60)]}
     expect("locked", locked_now(gates, NOW), [("bob", "members 1, 3, opens in 5 s, 2 failures in a row"),
                                               ("cid", "member 3, opens in 60 s, 4 failures in a row")])
-    users = {name: User(name, "HOTP/E/6", token=name * 2, begin=begin) for name, begin in ((b"a", 0), (b"b", 0), (b"c", 7))}
+    counters = {b"a": 0, b"b": 0, b"c": 7}
+    users = {name: User(name, "HOTP/E/6", token=name * 2, begin=begin) for name, begin in counters.items()}
     users[b"t"] = User(b"t", "HOTP/T30/6", token=b"tt")
     here = {name: Row(0, user.token or b"", user.begin, name) for name, user in users.items()}
     expect("all have all", not_in_place(users, {1: here, 2: here, 3: here}), [])

@@ -74,7 +74,8 @@ def begin(folder: str) -> None:
     Path("cluster").write_text(CLUSTER)
     Path("key").write_text("0c" * 32)
     Path("staff").write_text("sam -\n")
-    Path("users").write_text("".join("HOTP %s %s %040x\n" % (name, WORD, number) for number, name in enumerate(USERS, 1)))
+    rows = ("HOTP %s %s %040x\n" % (name, WORD, number) for number, name in enumerate(USERS, 1))
+    Path("users").write_text("".join(rows))
 
 
 def secret_of(name: str) -> str:
@@ -144,7 +145,8 @@ def killed() -> None:
                 pass
         site.start()
         ann.application = site.application
-        expect(point, ((secret_of("ann") != before), ann.ask("/phone").secret()), (is_in, secret_of("ann") if is_in else ""))
+        expect("the row, " + point, secret_of("ann") != before, is_in)
+        expect("the page", ann.ask("/phone").secret(), secret_of("ann") if is_in else "")
         expect("no session", ann.ask("/").place, "/login")
         expect("the login leads there", 'href="/phone"' in ann.ask("/login").page, is_in)
     expect("another browser", Browser(site.application).ask("/phone").place, "/login")
@@ -160,11 +162,12 @@ def disk() -> None:
     ann = site.log_in()
     with mock.patch("os.fsync", side_effect=OSError("no room")):
         site.replace(ann)
-    expect("nothing", (ann.status, "could not be kept" in ann.alert(), secret_of("ann"), left()), (503, True, before, []))
+    said = "could not be kept" in ann.alert()
+    expect("nothing", (ann.status, said, secret_of("ann"), left()), (503, True, before, []))
 
 
 def limit() -> None:
-    """Three phones a day, also over restarts. What was refused or failed doesn't count, and the fourth costs no code."""
+    """Three phones a day, also over restarts. What was refused doesn't count, and the fourth costs no code."""
     site = Site()
     ann = site.log_in()
     for _ in range(4):
@@ -217,7 +220,8 @@ def greeted() -> None:
     record.write("sam", "replace", "ann", "replaced the token (a kind); copied to the members", "192.0.2.1", of=begun)
     record.write("sam", "replace", "bob", "refused: the second code", "192.0.2.1")
     page = " ".join(site.log_in().ask("/").page.split())
-    expect("after one by the helpdesk", ("UTC by your helpdesk. If that was" in page, "192.0.2.1" in page), (True, False))
+    told = "UTC by your helpdesk. If that was" in page, "192.0.2.1" in page
+    expect("after one by the helpdesk", told, (True, False))
     expect("after one that was refused", "replaced at" in site.log_in("bob").ask("/").page, False)
 
 
