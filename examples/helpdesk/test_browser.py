@@ -509,6 +509,7 @@ class Test:
     def killed(self):
         """The service is killed amid a replacement: the pages tell what holds, and this browser gets the secret."""
         browser, old, hold = self.browser, self.row("una"), self.site.folder / "hold"
+        settle(self.site)
         hold.touch()
         browser.open(place("una", "replace"))
         browser.fill("Your own next code", self.sam.code())
