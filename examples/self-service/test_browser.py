@@ -404,6 +404,7 @@ class Test:
     def taken_back(self):
         """The helpdesk gives a user a new phone, while a thief is logged in by the old one."""
         thief, pia = Client(self.site), self.tokens["pia"]
+        settle(self.site)
         expect("a thief is in", thief.log_in(pia), "303")
         thief.ask("/replace")
         text = self.site.read("desk/users")
