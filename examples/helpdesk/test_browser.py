@@ -189,6 +189,10 @@ class Test:
         user = Window(self.site)
         expect("a user who isn't staff", user.log_in(self.tokens["gus"]), "403")
         expect("whose code is good still", self.answer("gus", code(self.tokens["gus"].secret, 0)), "OK 0")
+        self.without_password()
+
+    def without_password(self):
+        """A code alone logs nobody in, and isn't used up."""
         kim, window = self.kim, Window(self.site)
         window.ask("/login")
         told = [window.post("/login", user="kim", password=word, code=code(kim.secret, kim.next))
