@@ -19,8 +19,7 @@ from concurrent.futures import ThreadPoolExecutor
 from pathlib import Path
 from textwrap import indent
 
-TOP = Path(__file__).resolve().parent.parent
-sys.path[:0] = [str(TOP / "tools/lib"), str(TOP / "examples/clients")]
+from checkout import TOP
 import wakdulg
 from otp import RFC_KEY, code
 
