@@ -287,7 +287,7 @@ class Site:
         folder.mkdir()
         self.kept.mkdir()
         for name, target in [("oathd", programs / "oathd"), ("oathtool", programs / "oathtool"),
-                             ("examples", TOP / "examples"), ("tools", TOP / "tools")]:
+                             *((each, TOP / each) for each in ("examples", "python", "tools"))]:
             (folder / name).symlink_to(target)
         environment = dict(os.environ, PATH="%s:%s" % (programs, os.environ["PATH"]), LC_ALL="C",
                            PYTHONDONTWRITEBYTECODE="1")

@@ -3,12 +3,11 @@ import re
 import secrets
 import subprocess
 
-import lists
-import phone
 import wakdulg
 from book import User, duplicates, row_in, with_row, with_rows
-from tokens import NEW_BYTES, Fault, Token
-from users_file import UsersFile
+from wakdulg_onboard import lists, phone
+from wakdulg_onboard.tokens import NEW_BYTES, Fault, Token
+from wakdulg_onboard.users_file import UsersFile
 
 # The rows of a users file, and how many faults of `oathd check` are looked for.
 MOST_ROWS, MOST_FAULTS = 10_000, 10

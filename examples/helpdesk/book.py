@@ -11,8 +11,8 @@ import threading
 import time
 from typing import NamedTuple
 
-from tokens import Fault, read_rows
-from users_file import UsersFile, ask_oathd, lock_beside, sync_folder
+from wakdulg_onboard.tokens import Fault, read_rows
+from wakdulg_onboard.users_file import UsersFile, ask_oathd, lock_beside, sync_folder
 
 HASHES = {"SHA256": "SHA-256", "SHA512": "SHA-512"}
 PASSWORDS = {b"-": "none", b"+": "not checked by the nodes"}

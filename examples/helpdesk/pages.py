@@ -9,7 +9,7 @@ from members import settled
 from passwords import Passwords
 from sessions import is_same
 from staff import hashes_of
-from tokens import Fault
+from wakdulg_onboard.tokens import Fault
 import wakdulg
 import web
 from web import NOT_BEGUN, Stop, at_moment

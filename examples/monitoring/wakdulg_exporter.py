@@ -9,8 +9,7 @@ NODES are `127.0.0.1:717,127.0.0.1:718,127.0.0.1:719`, the members in the order 
 number before it, as `2=127.0.0.1:718`.
 
 A scrape asks all members at once, and takes two seconds at most. A silent member has `wakdulg_up` 0 and no other
-metric. Scrapes within a second get the same text. `wakdulg.py` and `wakdulg_operator.py` lie beside this file, or in
-../clients of a checkout. docs/how-to/monitor.md says what to do with it.
+metric. Scrapes within a second get the same text. The package wakdulg is installed, or lies beside this file. docs/how-to/monitor.md says what to do with it.
 """
 import argparse
 import os
@@ -22,14 +21,11 @@ import time
 from concurrent.futures import ThreadPoolExecutor
 from http.server import BaseHTTPRequestHandler, ThreadingHTTPServer
 
-# Behind the standard library. A checkout has the client library in examples/clients.
-FOLDER = os.path.dirname(os.path.realpath(__file__))
-sys.path.append(FOLDER)
-if FOLDER.endswith("/examples/monitoring"):
-    sys.path.append(os.path.join(os.path.dirname(FOLDER), "clients"))
+# Behind the standard library and what is installed.
+sys.path.append(os.path.dirname(os.path.realpath(__file__)))
 sys.dont_write_bytecode = True
 import wakdulg
-import wakdulg_operator
+from wakdulg import operator as wakdulg_operator
 
 # For how many seconds a member is asked, after how many it is asked again, and for how many a text is kept.
 LONGEST, PAUSE, KEPT = 1.9, 0.6, 1.0

@@ -1,29 +1,23 @@
-#!/usr/bin/env python3
-"""Tries onboard: test_onboard.py [TEST..]
+"""Tries the program onboard and its modules.
 
-OATHD and OATHTOOL are the programs, else ./oathd and ./oathtool of the repository. It takes some seconds.
+OATHD and OATHTOOL are the programs, else ./oathd and ./oathtool of the checkout. It takes some seconds.
 """
 import fcntl
 import os
 import shutil
 import stat
 import subprocess
-import sys
 import tempfile
 import unittest
 from pathlib import Path
 from unittest import mock
 
-sys.dont_write_bytecode = True
-HERE = Path(__file__).resolve().parent
-TOP = HERE.parent.parent
-sys.path.insert(0, str(HERE))
-import aes
-import names
-import phone
-from tokens import Fault, Token, read_rows, read_secret
-from users_file import UsersFile
+from wakdulg_onboard import aes, names, phone
+from wakdulg_onboard.tokens import Fault, Token, read_rows, read_secret
+from wakdulg_onboard.users_file import UsersFile
 
+TOP = Path(__file__).resolve().parents[2]
+HERE = TOP / "examples/onboarding"
 SAMPLES = HERE / "samples"
 OATHTOOL = os.environ.get("OATHTOOL", str(TOP / "oathtool"))
 RFC_SECRET = b"12345678901234567890"
@@ -536,6 +530,3 @@ class Cipher(unittest.TestCase):
             self.assertRaises(ValueError, aes.decipher_cbc, bytes(key), bytes(data))
         self.assertRaises(ValueError, aes.decipher_cbc, bytes(16), bytes(32))
 
-
-if __name__ == "__main__":
-    unittest.main()

@@ -1,14 +1,12 @@
-#!/usr/bin/env python3
-"""Tries wakdulg.py beside fake nodes, which lose, repeat, cut, forge and refuse: test_wakdulg.py [TEST..]
+"""Tries the client beside fake nodes, which lose, repeat, cut, forge and refuse.
 
-tools/clients calls it. It takes some seconds, also on a busy machine: a test that waits for an answer waits long, and
-only those in which nobody answers have short pauses.
+It takes some seconds, also on a busy machine: a test that waits for an answer waits long, and only those in which
+nobody answers have short pauses. examples/clients/test_wakdulg_c.py tries the library in C by the same tests.
 """
 import hashlib
 import os
 import socket
 import stat
-import sys
 import tempfile
 import threading
 import time
@@ -16,9 +14,8 @@ import unittest
 from concurrent.futures import ThreadPoolExecutor
 from unittest import mock
 
-sys.dont_write_bytecode = True
 import wakdulg
-from fake_node import NO_ANSWERS, FakeNode
+from tests.fake_node import NO_ANSWERS, FakeNode
 
 PATIENT = {"pauses": (0.2, 30.0), "total": 60.0, "avoid": 300.0, "key": wakdulg.PLAIN_LINES}
 KEY, OTHER = wakdulg.Key(7, bytes(range(32))), wakdulg.Key(8, bytes(range(1, 33)))
@@ -335,6 +332,3 @@ class Tests(unittest.TestCase):
         self.assertEqual(wakdulg.log_line("a b\n", "ann", wakdulg.Accepted(7)), 'accepted from=a?b? OK 7 user="ann"')
         self.assertEqual(wakdulg.log_line(None, "ann", wakdulg.Accepted(7)), 'accepted from=- OK 7 user="ann"')
 
-
-if __name__ == "__main__":
-    unittest.main()

@@ -7,7 +7,7 @@ import secrets
 import stat
 import subprocess
 
-from tokens import SERIAL, Fault, read_rows
+from wakdulg_onboard.tokens import SERIAL, Fault, read_rows
 
 
 class UsersFile:

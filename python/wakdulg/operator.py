@@ -1,7 +1,7 @@
-"""Asks running nodes of a cluster by names for reports, under an operator's or a reader's key: Python 3.8, wakdulg.py.
+"""Asks running nodes of a cluster by names for reports, under an operator's or a reader's key.
 
-    key = wakdulg_operator.read_operator("/etc/my/reader")      # a line `reader NUMBER KEY` or `operator NUMBER KEY`
-    status = wakdulg_operator.ask(key, ("127.0.0.1", 7101), 1, "STATUS")
+    key = wakdulg.operator.read_operator("/etc/my/reader")      # a line `reader NUMBER KEY` or `operator NUMBER KEY`
+    status = wakdulg.operator.ask(key, ("127.0.0.1", 7101), 1, "STATUS")
 
 `ask` returns the lines of a report, or raises `Silent` or `NoReport`. A request is sealed again each time that it is
 sent. Only a report that is sealed for that very datagram counts. docs/reference/formats.md ("A request and its report")

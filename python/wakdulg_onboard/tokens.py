@@ -5,7 +5,7 @@ import codecs
 import re
 from dataclasses import dataclass
 
-from names import fault_of
+from wakdulg_onboard.names import fault_of
 
 # What stands in a users file before a field, and the types that its rows have.
 BLANKS = re.compile(rb"[ \t\r]+")

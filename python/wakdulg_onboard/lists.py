@@ -4,7 +4,7 @@ import io
 import json
 from dataclasses import dataclass
 
-from tokens import HASHES, KINDS, Fault, Token, read_number, read_secret, read_word
+from wakdulg_onboard.tokens import HASHES, KINDS, Fault, Token, read_number, read_secret, read_word
 
 FIELDS = ("serial", "user", "secret", "type", "digits", "period", "hash", "counter")
 # What the programs call these fields. LinOTP has a prefix before its names.

@@ -4,7 +4,7 @@ import os
 import subprocess
 from urllib.parse import quote
 
-from tokens import Fault
+from wakdulg_onboard.tokens import Fault
 
 
 def uri_of(token, issuer, account):

@@ -11,8 +11,8 @@ import re
 from dataclasses import dataclass, field
 from xml.parsers import expat
 
-import aes
-from tokens import HASHES, Fault, Token, read_number, read_word
+from wakdulg_onboard import aes
+from wakdulg_onboard.tokens import HASHES, Fault, Token, read_number, read_word
 
 CIPHERS = {"aes128-cbc": 16, "aes192-cbc": 24, "aes256-cbc": 32}
 MACS = {"hmac-" + name: name for name in ("sha1", "sha224", "sha256", "sha384", "sha512")}
