@@ -1,18 +1,16 @@
-#!/usr/bin/python3 -I
 """An exporter for Prometheus: the states of running nodes of a cluster by names, which it asks under a reader's key.
 
-    wakdulg_exporter.py --operator KEYFILE [--listen ADDRESS:PORT] NODES     serves /metrics, else at 127.0.0.1:9717
-    wakdulg_exporter.py --operator KEYFILE --once NODES                      prints the metrics once
+    wakdulg-exporter --operator KEYFILE [--listen ADDRESS:PORT] NODES     serves /metrics, else at 127.0.0.1:9717
+    wakdulg-exporter --operator KEYFILE --once NODES                      prints the metrics once
 
 KEYFILE has one line `reader NUMBER KEY` or `operator NUMBER KEY`, as the clients file of the nodes, and mode 600.
 NODES are `127.0.0.1:717,127.0.0.1:718,127.0.0.1:719`, the members in the order of their numbers, or each has its
 number before it, as `2=127.0.0.1:718`.
 
 A scrape asks all members at once, and takes two seconds at most. A silent member has `wakdulg_up` 0 and no other
-metric. Scrapes within a second get the same text. The package wakdulg is installed, or lies beside this file. docs/how-to/monitor.md says what to do with it.
+metric. Scrapes within a second get the same text. docs/how-to/monitor.md says what to do with it.
 """
 import argparse
-import os
 import re
 import signal
 import sys
@@ -21,11 +19,8 @@ import time
 from concurrent.futures import ThreadPoolExecutor
 from http.server import BaseHTTPRequestHandler, ThreadingHTTPServer
 
-# Behind the standard library and what is installed.
-sys.path.append(os.path.dirname(os.path.realpath(__file__)))
-sys.dont_write_bytecode = True
 import wakdulg
-from wakdulg import operator as wakdulg_operator
+from wakdulg import operator
 
 # For how many seconds a member is asked, after how many it is asked again, and for how many a text is kept.
 LONGEST, PAUSE, KEPT = 1.9, 0.6, 1.0
@@ -96,7 +91,7 @@ def samples_of(lines):
 
 
 def commit_samples(commits, took):
-    """Returns the samples of the histogram of commits. Its buckets have all commits up to a time. A report has no sum."""
+    """Returns the samples of the histogram of commits. Its buckets have all commits up to a time. It has no sum."""
     samples, count = [], 0
     for millis in BUCKETS[:-1]:
         count += took[millis]
@@ -117,7 +112,8 @@ def text_of(by_node):
     for node, samples in sorted(by_node.items()):
         for name, labels, value in samples:
             pairs = ",".join('%s="%s"' % (label, re.sub(r'["\\\n]', "?", text)) for label, text in labels.items())
-            found[re.sub("_(bucket|count)$", "", name)].append('wakdulg_%s{node="%d"%s} %d' % (name, node, "," + pairs if pairs else "", value))
+            line = 'wakdulg_%s{node="%d"%s} %d' % (name, node, "," + pairs if pairs else "", value)
+            found[re.sub("_(bucket|count)$", "", name)].append(line)
     lines = []
     for name, kind, text in METRICS:
         if found[name]:
@@ -143,9 +139,9 @@ class Exporter:
         """Returns the samples of a node. That of a silent one says that it is silent."""
         deadline = time.monotonic() + LONGEST
         try:
-            return samples_of(wakdulg_operator.ask(self.key, self.members[node], node, "STATUS", times=10, pause=PAUSE,
-                                                   deadline=deadline))
-        except (wakdulg_operator.Silent, wakdulg_operator.NoReport, ValueError, IndexError):
+            return samples_of(operator.ask(self.key, self.members[node], node, "STATUS", times=10, pause=PAUSE,
+                                           deadline=deadline))
+        except (operator.Silent, operator.NoReport, ValueError, IndexError):
             return [("up", {}, 0)]
 
     def text(self):
@@ -183,7 +179,7 @@ class Server(ThreadingHTTPServer):
 
 def read_words():
     words = argparse.ArgumentParser(
-        usage="wakdulg_exporter.py --operator KEYFILE [--listen ADDRESS:PORT | --once] NODES")
+        usage="wakdulg-exporter --operator KEYFILE [--listen ADDRESS:PORT | --once] NODES")
     words.add_argument("--operator", required=True)
     words.add_argument("--listen", default="127.0.0.1:9717")
     words.add_argument("--once", action="store_true")
@@ -195,7 +191,7 @@ def main():
     words = read_words()
     signal.signal(signal.SIGTERM, lambda *_: sys.exit(0))
     try:
-        exporter = Exporter(wakdulg_operator.read_operator(words.operator), words.nodes)
+        exporter = Exporter(operator.read_operator(words.operator), words.nodes)
         if words.once:
             print(exporter.text(), end="")
             return
@@ -207,7 +203,3 @@ def main():
         server.serve_forever()
     except KeyboardInterrupt:
         pass
-
-
-if __name__ == "__main__":
-    main()
