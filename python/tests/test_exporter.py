@@ -17,6 +17,7 @@ import unittest
 from importlib.util import find_spec
 from pathlib import Path
 from typing import TYPE_CHECKING
+from unittest import mock
 from wsgiref.simple_server import make_server
 
 from tests.fake_node import FakeNode
@@ -99,9 +100,9 @@ wakdulg_member_differs{member="3",node="2"} 0.0
 
 
 def statuses_of(port: int, request: bytes) -> tuple[list[str], bool]:
-    """Returns the statuses of the answers that a connection has until its end, and whether it ended in some seconds."""
+    """Returns the statuses of the answers of a connection until its end, and whether it ended in half a minute."""
     got = b""
-    with socket.create_connection(("127.0.0.1", port), timeout=5) as connection:
+    with socket.create_connection(("127.0.0.1", port), timeout=30) as connection:
         connection.sendall(request)
         try:
             while more := connection.recv(65536):
@@ -115,6 +116,17 @@ def statuses_of(port: int, request: bytes) -> tuple[list[str], bool]:
 
 @unittest.skipUnless(HAS_LIBRARY, "needs python3-prometheus-client")
 class Tests(unittest.TestCase):
+    def setUp(self) -> None:
+        """A busy machine may take long to answer, and to scrape again."""
+        for name, seconds in ("LONGEST", 60.0), ("PAUSE", 30.0), ("KEPT", 60.0):
+            self.set(name, seconds)
+
+    def set(self, name: str, seconds: float) -> None:
+        """Sets a time of the program until the end of a test."""
+        patch = mock.patch.object(program, name, seconds)
+        patch.start()
+        self.addCleanup(patch.stop)
+
     def node(self, number: int, *reports: str) -> FakeNode:
         """Starts a node that answers an operator by these reports."""
         key = Operator(901, SECRET)
@@ -171,12 +183,14 @@ class Tests(unittest.TestCase):
         samples = [line for line in text.splitlines() if not line.startswith("#")]
         self.assertEqual(samples, ['wakdulg_up{node="%d"} 0.0' % number for number in (1, 2, 3)])
 
-    def test_scrapes_within_a_second_ask_once(self) -> None:
-        node = self.node(2)
-        registry = self.registry("2=" + node.name)
-        self.assertEqual(node.heard, [])
-        self.assertEqual(generate_latest(registry), generate_latest(registry))
-        self.assertEqual(node.heard, ["STATUS 0"])
+    def test_scrapes_within_some_time_ask_once(self) -> None:
+        for kept, asked in (60.0, 1), (0.0, 2):
+            self.set("KEPT", kept)
+            node = self.node(2)
+            registry = self.registry("2=" + node.name)
+            self.assertEqual(node.heard, [])
+            self.assertEqual(generate_latest(registry), generate_latest(registry))
+            self.assertEqual(node.heard, ["STATUS 0"] * asked)
 
     def test_a_connection_has_one_answer_and_ends(self) -> None:
         """Else a proxy's next client would get the answer to a request in a body."""
@@ -193,7 +207,7 @@ class Tests(unittest.TestCase):
 
     def test_the_names_that_a_scrape_wants(self) -> None:
         port = self.serve("2=" + self.node(2).name)
-        with socket.create_connection(("127.0.0.1", port), timeout=5) as connection:
+        with socket.create_connection(("127.0.0.1", port), timeout=30) as connection:
             connection.sendall(b"GET /metrics?name[]=wakdulg_up HTTP/1.0\r\n\r\n")
             got = b"".join(iter(lambda: connection.recv(65536), b""))
         self.assertEqual(re.findall(rb"^wakdulg.*$", got, re.M), [b'wakdulg_up{node="2"} 1.0'])

@@ -21,8 +21,8 @@ class Requests(unittest.TestCase):
         self.addCleanup(node.stop)
         return node
 
-    def ask(self, node: FakeNode, word: str, times: int = 3, pause: float = 30.0) -> list[str]:
-        """Returns the lines of a report."""
+    def ask(self, node: FakeNode, word: str, times: int = 50, pause: float = 30.0) -> list[str]:
+        """Returns the lines of a report. With a short pause it asks often, since a busy machine may take long."""
         return operator.ask(KEY, node.address, 2, word, times, pause)
 
     def test_a_report_of_one_page(self) -> None:
@@ -49,16 +49,13 @@ class Requests(unittest.TestCase):
 
     def test_a_first_page_has_to_be_on_the_last_sending(self) -> None:
         """The first page on the first sending comes late, when the node has made the text again."""
-        last: list[bytes] = []
 
-        def keep(sender: object, nonce: bytes) -> None:
-            last.append(node.datagrams[-1])
+        def answer(sender: wakdulg.Node, page: bytes) -> None:
+            if page == b"0":
+                node.port.sendto(node.sealed(b"old\nnext 1", node.datagrams[0]), sender)
+            node.port.sendto(node.sealed(b"new\nnext 1" if page == b"0" else b"end", node.datagrams[-1]), sender)
 
-        def answer(sender: wakdulg.Node, nonce: bytes) -> None:
-            node.port.sendto(node.sealed(b"old\nnext 1", last[0]), sender)
-            node.port.sendto(node.sealed(b"new\nnext 1", node.datagrams[-1]), sender)
-
-        node = self.node([keep], [answer], ["end"])
+        node = self.node([], [answer])
         self.assertEqual(self.ask(node, "GATES", pause=0.3), ["new"])
 
     def test_a_whole_report_may_be_on_any_sending(self) -> None:
@@ -68,19 +65,20 @@ class Requests(unittest.TestCase):
     def test_a_lost_request_is_sent_again_under_another_seal(self) -> None:
         node = self.node([], ["a\nend"])
         self.assertEqual(self.ask(node, "GATES", pause=0.3), ["a"])
-        self.assertEqual((node.heard, len({*node.datagrams})), (["GATES 0"] * 2, 2))
+        node.stop()
+        self.assertEqual(({*node.heard}, len({*node.datagrams})), ({"GATES 0"}, len(node.heard)))
+        self.assertGreaterEqual(len(node.heard), 2)
 
     def test_who_is_silent(self) -> None:
         for node in self.node([]), self.node(["end"], key=OTHER):
             with self.assertRaisesRegex(Silent, "^no answer from 127.0.0.1:[0-9]+$"):
                 self.ask(node, "STATUS", times=2, pause=0.2)
+            with self.assertRaises(Silent):
+                operator.ask(KEY, node.address, 2, "STATUS", deadline=0.0)
+            node.stop()
             self.assertEqual(len(node.heard), 2)
-        with self.assertRaises(Silent):
-            operator.ask(KEY, node.address, 2, "STATUS", deadline=0.0)
-        self.assertEqual(len(node.heard), 2)
-        node.stop()
-        with self.assertRaisesRegex(Silent, "refused"):
-            self.ask(node, "STATUS")
+            with self.assertRaisesRegex(Silent, "refused"):
+                self.ask(node, "STATUS")
 
     def test_what_is_no_report(self) -> None:
         for text in "NO READER", "", "a", "next 1", "a\nnext 7", "a\nnext -1":
