@@ -19,8 +19,7 @@ from concurrent.futures import ThreadPoolExecutor
 from pathlib import Path
 from textwrap import indent
 
-TOP = Path(__file__).resolve().parent.parent
-sys.path[:0] = [str(TOP / "tools/lib"), str(TOP / "examples/clients")]
+from checkout import TOP
 import wakdulg
 from otp import RFC_KEY, code
 
@@ -288,7 +287,7 @@ class Site:
         folder.mkdir()
         self.kept.mkdir()
         for name, target in [("oathd", programs / "oathd"), ("oathtool", programs / "oathtool"),
-                             ("examples", TOP / "examples"), ("tools", TOP / "tools")]:
+                             *((each, TOP / each) for each in ("examples", "python", "tools"))]:
             (folder / name).symlink_to(target)
         environment = dict(os.environ, PATH="%s:%s" % (programs, os.environ["PATH"]), LC_ALL="C",
                            PYTHONDONTWRITEBYTECODE="1")

@@ -14,8 +14,7 @@ import unittest
 from pathlib import Path
 
 sys.dont_write_bytecode = True
-TOP = Path(__file__).resolve().parent.parent
-sys.path.insert(0, str(TOP / "tools/lib"))
+from checkout import TOP
 from net import free_port
 from otp import RFC_KEY, rfc_code
 

@@ -13,7 +13,7 @@ words of a command. The line is the same for each node, so that its code is used
 ask.py sends a node the line, and sends it again if no answer comes within a second. It leaves the node after 2.5
 seconds, or at once if the system reports that nobody is there or that no route leads there. After TIMEOUT, BUSY and
 CLOCK, which are about the node, it asks the next one. Any other answer decides. It ignores all that is no answer to
-this line. It asks by wakdulg.py, which lies beside it.
+this line. It asks by the package wakdulg, which is installed or lies beside it.
 """
 import os
 import re

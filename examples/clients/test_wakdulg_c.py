@@ -16,9 +16,10 @@ import unittest
 from types import SimpleNamespace
 
 sys.dont_write_bytecode = True
-import test_wakdulg
+import checkout
 import wakdulg
-from fake_node import FakeNode
+from tests import test_wakdulg
+from tests.fake_node import FakeNode
 
 HERE = os.path.dirname(os.path.abspath(__file__))
 CC = os.environ.get("CC", "cc")

@@ -4,8 +4,8 @@ The environment of the RADIUS server has NODES, as `127.0.0.1:717,127.0.0.1:718`
 this client and its key file, as `7:FILE`, which freerad alone may read. PLAIN_LINES=yes in its place asks without a
 key. User-Password is the code: six to eight digits, as the user's token has, or DIGITS digits alone. With PASSWORDS=yes
 a password may stand before the code, which the node checks. Then all codes have six digits, or DIGITS, and no row of
-the users file may have `+`, at which a node takes any password. The folder of wakdulg.py stands in python_path, as that
-of this file.
+the users file may have `+`, at which a node takes any password. The package wakdulg is installed, or its folder
+stands in python_path, as that of this file does.
 """
 import os
 import re

@@ -7,13 +7,12 @@ import subprocess
 from collections.abc import Callable, Mapping, Sequence
 from typing import Any, NamedTuple
 
-import lists
-import phone
 import wakdulg
 from book import Book, Edit, User, duplicates, row_in, with_row, with_rows
 from members import Members
-from tokens import NEW_BYTES, Fault, Token
-from users_file import UsersFile
+from wakdulg_onboard import lists, phone
+from wakdulg_onboard.tokens import NEW_BYTES, Fault, Token
+from wakdulg_onboard.users_file import UsersFile
 
 # The rows of a users file, and how many faults of `oathd check` are looked for.
 MOST_ROWS, MOST_FAULTS = 10_000, 10

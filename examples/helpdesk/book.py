@@ -14,8 +14,8 @@ import time
 from collections.abc import Callable
 from typing import NamedTuple
 
-from tokens import Fault, Row, Token, read_rows
-from users_file import UsersFile, ask_oathd, lock_beside, sync_folder
+from wakdulg_onboard.tokens import Fault, Row, Token, read_rows
+from wakdulg_onboard.users_file import UsersFile, ask_oathd, lock_beside, sync_folder
 
 # What makes the text of a new file of an old one.
 Edit = Callable[[UsersFile], bytes]

@@ -15,7 +15,7 @@ from typing import Any
 HERE = Path(__file__).resolve().parent
 TOP = HERE.parent.parent
 sys.dont_write_bytecode = True
-sys.path[:0] = [str(HERE), str(TOP / "examples/clients"), str(TOP / "examples/onboarding")]
+sys.path[:0] = [str(HERE), str(TOP / "python")]
 import wakdulg
 import web
 from acts import Desk
@@ -23,7 +23,7 @@ from book import Book, User
 from members import ClusterFile, Gate, Row, State
 from record import Record
 from staff import staff_of
-from tokens import read_rows
+from wakdulg_onboard.tokens import read_rows
 
 OATHD = os.environ.get("OATHD", str(TOP / "oathd"))
 ORIGIN = "https://helpdesk.example"

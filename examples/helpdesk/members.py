@@ -13,9 +13,9 @@ from pathlib import Path
 from typing import NamedTuple
 
 import wakdulg
-import wakdulg_operator
 from record import tail_of
-from wakdulg_operator import Silent
+from wakdulg import operator as wakdulg_operator
+from wakdulg.operator import Silent
 
 
 class Refusal(Exception):

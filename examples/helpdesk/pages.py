@@ -21,9 +21,9 @@ from passwords import Passwords
 from record import BEGINS, REFUSED, Line, second_of
 from sessions import Session, is_same
 from staff import ROLES, hashes_of, rights_of
-from tokens import Fault
 from verdict import verdict
 from waiting import Asked, Waiting
+from wakdulg_onboard.tokens import Fault
 from web import NOT_BEGUN, NOT_KEPT, Stop, at_moment, moment_of, to_hex
 
 MOST_FOUND, MOST_LINES, MOST_ACTS = 50, 10, 200

@@ -18,15 +18,15 @@ from unittest import mock
 HERE = Path(__file__).resolve().parent
 TOP = HERE.parent.parent
 sys.dont_write_bytecode = True
-sys.path[:0] = [str(HERE), str(TOP / "examples/clients"), str(TOP / "examples/onboarding")]
+sys.path[:0] = [str(HERE), str(TOP / "python")]
 import flask
 import web
 from acts import Desk
 from book import Book, duplicates, user_of, with_row, with_rows
 from counting import await_that, expect, last_line
 from members import ClusterFile, State, row_of, settled
-from tokens import Token, read_rows
-from users_file import UsersFile
+from wakdulg_onboard.tokens import Token, read_rows
+from wakdulg_onboard.users_file import UsersFile
 
 OATHD = os.environ.get("OATHD", str(TOP / "oathd"))
 CLUSTER = "names trial-of-a-book\nlife 1\nkey-file key\nmember 1 127.0.0.1:9\n"
@@ -37,7 +37,7 @@ import sys
 sys.path[:0] = sys.argv[2:]
 from book import Book, with_rows
 from members import ClusterFile
-from tokens import Token
+from wakdulg_onboard.tokens import Token
 book = Book("users", sys.argv[1], ClusterFile("cluster"), "sh -c 'kill -9 $PPID'")
 book.change(with_rows([Token("a trial", bytes(range(1, 33)), "hotp", user="new")]))
 """
@@ -151,7 +151,7 @@ def pending():
     Path("closed").unlink()
     await_that("it is copied again", book.pending, None, 20)
     expect("all of it", Path("copy").read_bytes(), Path("users").read_bytes())
-    done = subprocess.run([sys.executable, "-c", KILLED, OATHD, *sys.path[:3]])
+    done = subprocess.run([sys.executable, "-c", KILLED, OATHD, *sys.path[:2]])
     expect("a process that is killed amid the copy", (done.returncode, "new" in rows()), (-signal.SIGKILL, True))
     other = book_of()
     expect("the next one knows", (other.pending() is not None, Path("copy").read_bytes() == Path("users").read_bytes()),

@@ -29,7 +29,7 @@ from passwords import HASHER
 from record import Record, check
 from sessions import Sessions
 from staff import check_staff, hashes_of, names_of
-from tokens import read_rows
+from wakdulg_onboard.tokens import read_rows
 
 real = time.time
 PASSWORD = "a word of staff"

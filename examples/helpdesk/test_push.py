@@ -19,7 +19,7 @@ from pathlib import Path
 
 HERE = Path(__file__).resolve().parent
 sys.dont_write_bytecode = True
-sys.path[:0] = [str(HERE), str(HERE.parent.parent / "tools/lib"), str(HERE.parent / "onboarding")]
+sys.path[:0] = [str(HERE), str(HERE.parent.parent / "tools/lib"), str(HERE.parent.parent / "python")]
 from counting import await_that, expect, last_line
 from net import free_ports
 

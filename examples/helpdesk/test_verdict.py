@@ -11,7 +11,7 @@ from pathlib import Path
 
 HERE = Path(__file__).resolve().parent
 sys.dont_write_bytecode = True
-sys.path[:0] = [str(HERE), str(HERE.parent / "clients"), str(HERE.parent / "onboarding")]
+sys.path[:0] = [str(HERE), str(HERE.parent.parent / "python")]
 from book import User
 from counting import expect, last_line
 from everybody import locked_now, never_used, not_in_place

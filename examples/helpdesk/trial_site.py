@@ -15,14 +15,14 @@ from pathlib import Path
 
 HERE = Path(__file__).resolve().parent
 TOP = HERE.parent.parent
-sys.path[:0] = [str(HERE), str(TOP / "tools/lib"), str(TOP / "examples/clients"), str(TOP / "examples/onboarding")]
+sys.path[:0] = [str(HERE), str(TOP / "tools/lib"), str(TOP / "python")]
 import wakdulg
 from members import Member, Silent
 from net import free_ports
 from otp import code
 from passwords import HASHER
-from tokens import read_rows
-from wakdulg_operator import read_operator
+from wakdulg.operator import read_operator
+from wakdulg_onboard.tokens import read_rows
 
 OATHD = os.environ.get("OATHD", str(TOP / "oathd"))
 OATHTOOL = os.environ.get("OATHTOOL", str(TOP / "oathtool"))

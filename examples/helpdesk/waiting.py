@@ -7,7 +7,7 @@ import time
 from typing import NamedTuple
 
 from acts import Act
-from tokens import Fault
+from wakdulg_onboard.tokens import Fault
 
 LONGEST = 3600
 

@@ -20,7 +20,7 @@ from jinja2 import FileSystemLoader
 from keeping import Kept
 from record import BEGINS, Line
 from sessions import Session, is_same
-from tokens import Fault
+from wakdulg_onboard.tokens import Fault
 from werkzeug.wrappers import Response as Answer
 
 # A refusal takes this many seconds, so its time doesn't tell who exists.

@@ -26,7 +26,7 @@ from fakes import CLUSTER, Browser, Killed, words_of
 from keeping import Keeper
 from record import Record
 from sessions import Sessions
-from tokens import read_rows
+from wakdulg_onboard.tokens import read_rows
 
 USERS, WORD = ("ann", "bob"), "word-of-a-user"
 real = time.time

@@ -1,11 +1,14 @@
 """Tokens, as files of other programs name them, and their rows in a users file (docs/reference/formats.md)."""
+from __future__ import annotations
+
 import base64
 import binascii
 import codecs
 import re
 from dataclasses import dataclass
+from typing import Any, List, Mapping, Union
 
-from names import fault_of
+from wakdulg_onboard.names import fault_of
 
 # What stands in a users file before a field, and the types that its rows have.
 BLANKS = re.compile(rb"[ \t\r]+")
@@ -23,13 +26,21 @@ LEAST_BYTES, NEW_BYTES = 16, 20
 class Fault(Exception):
     """What is wrong with a line of a file, by a name and some words."""
 
-    def __init__(self, place, name, detail):
+    def __init__(self, place: str, name: str, detail: str) -> None:
         super().__init__("%s: %s: %s" % (place, name, detail))
+
+
+class NotThere(Fault):
+    """What a command needs, and this machine lacks."""
+
+    def __init__(self, what: str, package: str) -> None:
+        super().__init__(what, "NotThere", "install Debian's package " + package)
 
 
 @dataclass
 class Token:
     """A token with the place of the line that names it. Its user is None if no file says whose it is."""
+
     place: str
     secret: bytes
     kind: str
@@ -40,30 +51,35 @@ class Token:
     hash: str = "SHA1"
     counter: int = 0
 
-    def type_word(self):
+    def type_word(self) -> str:
         """Returns the type that the row has."""
         if self.kind == "hotp":
             return "HOTP/E/%d" % self.digits
         return "HOTP/T%d/%d" % (self.period, self.digits) + ("" if self.hash == "SHA1" else "/" + self.hash)
 
-    def row(self, password):
+    def row(self, password: str) -> bytes:
         """Returns the row, in the form that `oathd export` writes, after a remark with the serial number."""
-        fields = [self.type_word(), self.user, password, self.secret.hex()]
+        fields = [self.type_word(), self.user or "", password, self.secret.hex()]
         fields += [str(self.counter)] if self.kind == "hotp" else []
         remark = "# %s\n" % self.serial if self.serial and self.serial != self.user else ""
         return (remark + "\t".join(fields) + "\n").encode()
 
-    def check(self, takes_short=False):
-        """Raises the first fault of the token, if a users file has no row for it. A secret that is shorter than RFC 4226
-        allows is taken if that is said."""
+    def check(self, takes_short: bool = False) -> None:
+        """Compares the token with what a row of a users file may have. A secret that is shorter than RFC 4226 allows is
+        taken if `takes_short`.
+
+        # Errors
+        Raises the first `Fault` of the token.
+        """
         user, name_fault, size = (self.user or "").encode(), fault_of(self.user or ""), len(self.secret)
-        faults = [
+        is_short = size < LEAST_BYTES and not takes_short
+        faults: list[tuple[str, object, str]] = [
             ("NoUser", not self.user, "no file says whose token %s is" % (self.serial or "this")),
             ("BadName", name_fault, "%s: %s" % (name_fault, ascii(self.user))),
             ("NameTooLong", len(user) > 64, "a user's name has at most 64 bytes: %r" % self.user),
             ("BadSerial", not self.serial.isprintable(), "the serial number isn't printable: %r" % self.serial),
             ("BadSecret", not 1 <= size <= 128, "a secret has 1 to 128 bytes: %d" % size),
-            ("ShortSecret", size < LEAST_BYTES and not takes_short, "%d bytes, and RFC 4226 wants %d or more" % (size, LEAST_BYTES)),
+            ("ShortSecret", is_short, "%d bytes, and RFC 4226 wants %d or more" % (size, LEAST_BYTES)),
             ("BadDigits", self.digits not in (6, 7, 8), "a code has 6 to 8 digits: %d" % self.digits),
             ("BadPeriod", self.kind == "totp" and self.period not in (30, 60), "30 or 60 seconds: %d" % self.period),
             ("BadHash", self.kind == "hotp" and self.hash != "SHA1", "an event token has SHA-1: %s" % self.hash),
@@ -74,22 +90,30 @@ class Token:
                 raise Fault(self.place, name, detail)
 
 
-def read_type(word):
+# What a file names: tokens, with a fault in place of each that can't be read.
+Found = List[Union[Token, Fault]]
+
+
+def read_type(word: bytes) -> dict[str, Any]:
     """Returns the kind, the digits, the period and the hash of a row's type, as a token has them."""
     fields = word.decode().split("/")[1:]
     first, digits, hash = fields + ["E", "6", "SHA1"][len(fields):]
-    kind = {"kind": "hotp"} if first == "E" else {"kind": "totp", "period": int(first[1:])}
+    kind: dict[str, Any] = {"kind": "hotp"} if first == "E" else {"kind": "totp", "period": int(first[1:])}
     return {**kind, "digits": int(digits), "hash": hash}
 
 
-def device_of(secret):
+def device_of(secret: str) -> str:
     """Returns what all secrets of one device have in common: HMAC fills a key with zeros, so more of them change no
     code. The secret is in hexadecimal."""
     return secret.lower().rstrip("0")
 
 
-def read_secret(text, form, place):
-    """Returns the bytes of a secret in `hex` or `base32`. No fault repeats the secret."""
+def read_secret(text: str, form: str, place: str) -> bytes:
+    """Returns the bytes of a secret in `hex` or `base32`.
+
+    # Errors
+    Raises `Fault` if it has another form. No fault repeats the secret.
+    """
     text = "".join(text.split())
     try:
         if form == "hex":
@@ -101,16 +125,25 @@ def read_secret(text, form, place):
         raise Fault(place, "BadSecret", "%d characters that are no %s%s" % (len(text), form, hint)) from None
 
 
-def read_number(text, place, what):
-    """Returns the number that a field says in decimal digits."""
+def read_number(text: str, place: str, what: str) -> int:
+    """Returns the number that a field says in decimal digits.
+
+    # Errors
+    Raises `Fault` if it says none.
+    """
     if not re.fullmatch(r"[0-9]{1,19}", text.strip()):
         raise Fault(place, "BadNumber", "%s is no number: %r" % (what, text.strip()))
     return int(text)
 
 
-def read_word(words, text, place, what):
-    """Returns what a word stands for, in either case and without its hyphens."""
-    found = words.get(text.strip().lower().replace("-", "").removeprefix("hmac" if words is HASHES else ""))
+def read_word(words: Mapping[str, str], text: str, place: str, what: str) -> str:
+    """Returns what a word stands for, in either case and without its hyphens.
+
+    # Errors
+    Raises `Fault` if it stands for nothing.
+    """
+    word = text.strip().lower().replace("-", "")
+    found = words.get(re.sub("^hmac", "", word) if words is HASHES else word)
     if found is None:
         raise Fault(place, "Unknown" + what.capitalize(), "%r" % text.strip())
     return found
@@ -119,19 +152,24 @@ def read_word(words, text, place, what):
 @dataclass
 class Row:
     """A row of a users file with the number of its line, from 1."""
+
     line: int
     type: bytes
     user: bytes
     password: bytes
     secret: bytes
-    rest: list
+    rest: list[bytes]
 
 
-def read_rows(text):
-    """Returns the rows of a users file as oathd reads it. Lines of other types and remarks are passed over."""
+def read_rows(text: bytes) -> list[Row]:
+    """Returns the rows of a users file as oathd reads it. Lines of other types and remarks are passed over.
+
+    # Errors
+    Raises `Fault` if the text isn't UTF-8 or a row lacks a field.
+    """
     if text.startswith(codecs.BOM_UTF8):
         raise Fault("line 1 of the users file", "ByteOrderMark", "save the file as UTF-8 without one")
-    rows = []
+    rows: list[Row] = []
     try:
         text.decode()
     except UnicodeDecodeError as fault:
@@ -143,5 +181,6 @@ def read_rows(text):
             continue
         if len(fields) < 4:
             raise Fault("line %d of the users file" % number, "MissingField", "a row has at least four fields")
-        rows.append(Row(number, *fields[:4], fields[4:]))
+        type, user, password, secret, *rest = fields
+        rows.append(Row(number, type, user, password, secret, rest))
     return rows

@@ -1,17 +1,21 @@
-"""Asks running nodes of a cluster by names for reports, under an operator's or a reader's key: Python 3.8, wakdulg.py.
+"""Asks running nodes of a cluster by names for reports, under an operator's or a reader's key.
 
-    key = wakdulg_operator.read_operator("/etc/my/reader")      # a line `reader NUMBER KEY` or `operator NUMBER KEY`
-    status = wakdulg_operator.ask(key, ("127.0.0.1", 7101), 1, "STATUS")
+    key = wakdulg.operator.read_operator("/etc/my/reader")      # a line `reader NUMBER KEY` or `operator NUMBER KEY`
+    status = wakdulg.operator.ask(key, ("127.0.0.1", 7101), 1, "STATUS")
 
 `ask` returns the lines of a report, or raises `Silent` or `NoReport`. A request is sealed again each time that it is
 sent. Only a report that is sealed for that very datagram counts. docs/reference/formats.md ("A request and its report")
 has the requests.
 """
+from __future__ import annotations
+
 import re
 import socket
 import time
 
-import wakdulg
+from wakdulg.client import Sealed
+from wakdulg.keys import Key, read_private
+from wakdulg.nodes import Node
 
 # How often a request is sent, and how many seconds apart.
 TIMES, PAUSE = 3, 1.0
@@ -28,39 +32,47 @@ class NoReport(Exception):
     """The node refuses the request, by the words of its report."""
 
 
-class Operator(wakdulg.Key):
+class Operator(Key):
     """The number and the key that an operator or a reader shares with the nodes. Its answers are reports."""
+
     REQUEST, ANSWER, MAX_TEXT = 3, 4, 1024
 
 
-class Request(wakdulg.Sealed):
+class Request(Sealed):
     """A request to a node. A report is on one of its sendings.
 
     A node makes the text of a report again for each sending of its first page, and has one text. So if more pages
     follow, the first page has to be on the last sending: else they might be pages of two texts."""
-    last = None
 
-    def datagram(self):
+    last = 0
+
+    def datagram(self) -> bytes:
+        """Returns the bytes of the next sending."""
         self.last = self.key.moment()
         data = self.key.seal(self.line, self.node, Operator.REQUEST, self.last)
         self._tags[self.last] = data[-Operator.TAG_LEN:]
         return data
 
-    def opened(self, data):
+    def opened(self, data: bytes) -> bytes | None:
+        """Returns the text of a report on one of the sendings, or None."""
         text = super().opened(data)
         is_first = text is not None and self.line.endswith(b" 0") and b"\nnext " in text[-20:]
         return None if is_first and Operator.HEAD.unpack_from(data)[5] != self.last else text
 
 
-def read_operator(path):
-    """Returns the key of a file that has one line `operator NUMBER KEY` or `reader NUMBER KEY`."""
-    found = re.fullmatch(r"(?:operator|reader) ([0-9]{1,5}) ((?:[0-9A-Fa-f]{2})+)\n?", wakdulg.read_private(path))
+def read_operator(path: str) -> Operator:
+    """Returns the key of a file that has one line `operator NUMBER KEY` or `reader NUMBER KEY`.
+
+    # Errors
+    Raises `ValueError` if the file has another form, or as `wakdulg.read_private` does.
+    """
+    found = re.fullmatch(r"(?:operator|reader) ([0-9]{1,5}) ((?:[0-9A-Fa-f]{2})+)\n?", read_private(path))
     if not found:
         raise ValueError("not one line `operator NUMBER KEY` or `reader NUMBER KEY`: " + path)
     return Operator(int(found[1]), bytes.fromhex(found[2]))
 
 
-def hear(client, request, end):
+def hear(client: socket.socket, request: Request, end: float) -> bytes | None:
     """Returns the text of a report that comes until `end`, or None."""
     while (left := end - time.monotonic()) > 0:
         client.settimeout(left)
@@ -73,8 +85,20 @@ def hear(client, request, end):
     return None
 
 
-def ask_page(key, address, node, text, times=TIMES, pause=PAUSE, deadline=float("inf")):
-    """Returns the lines of the report on one request."""
+def ask_page(
+    key: Operator,
+    address: Node,
+    node: int,
+    text: str,
+    times: int = TIMES,
+    pause: float = PAUSE,
+    deadline: float = float("inf"),
+) -> list[str]:
+    """Returns the lines of the report on one request.
+
+    # Errors
+    Raises `Silent` if there is no report until `deadline`, in seconds of the monotonic clock.
+    """
     request = Request(text.encode(), key, node)
     try:
         with socket.socket(socket.AF_INET, socket.SOCK_DGRAM) as client:
@@ -91,13 +115,26 @@ def ask_page(key, address, node, text, times=TIMES, pause=PAUSE, deadline=float(
     raise Silent("no answer from %s:%d" % address)
 
 
-def ask(key, address, node, word, **how):
-    """Returns the lines of the report on a request. Its pages are asked one by one. `how` is as for `ask_page`."""
+def ask(
+    key: Operator,
+    address: Node,
+    node: int,
+    word: str,
+    times: int = TIMES,
+    pause: float = PAUSE,
+    deadline: float = float("inf"),
+) -> list[str]:
+    """Returns the lines of the report on a request. Its pages are asked one by one.
+
+    # Errors
+    Raises `Silent` if a page lacks, and `NoReport` if the node refuses the request or a page is none.
+    """
     if word not in PAGED:
-        return checked(ask_page(key, address, node, word, **how))
-    lines, restarts = [], 2
+        return checked(ask_page(key, address, node, word, times, pause, deadline))
+    lines: list[str] = []
+    restarts = 2
     while True:
-        page = ask_page(key, address, node, "%s %d" % (word, len(lines)), **how)
+        page = ask_page(key, address, node, "%s %d" % (word, len(lines)), times, pause, deadline)
         if lines and restarts and page == ["NO REPORT"]:
             # Another operator's report took the place of this text at the node.
             lines, restarts = [], restarts - 1
@@ -110,8 +147,12 @@ def ask(key, address, node, word, **how):
             raise NoReport("not a page: " + last)
 
 
-def checked(page):
-    """Returns the lines of a page that refuses nothing."""
+def checked(page: list[str]) -> list[str]:
+    """Returns the lines of a page that refuses nothing.
+
+    # Errors
+    Raises `NoReport` if it is empty or refuses the request.
+    """
     if not page or re.fullmatch("NO [A-Z]+", page[0]):
         raise NoReport("the node refuses: " + (page[0] if page else "an empty report"))
     return page

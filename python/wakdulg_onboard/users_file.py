@@ -1,4 +1,6 @@
 """Changes a users file: all of its rows that have to, or none, in a new file that takes the place of the old one."""
+from __future__ import annotations
+
 import contextlib
 import fcntl
 import os
@@ -6,34 +8,41 @@ import re
 import secrets
 import stat
 import subprocess
+from typing import Iterator, Sequence
 
-from tokens import SERIAL, Fault, read_rows
+from wakdulg_onboard.tokens import SERIAL, Fault, Row, read_rows
 
 
 class UsersFile:
     """A users file that one process at a time may change. Its path is that of the file and not of a link to it."""
 
-    def __init__(self, path, create):
-        self.path, self.name = os.path.realpath(path), path
+    def __init__(self, path: str | os.PathLike[str], create: bool) -> None:
+        self.path, self.name = os.path.realpath(path), os.fspath(path)
+        self.before: os.stat_result | None = None
         try:
             with open(self.path, "rb") as file:
                 self.before, self.text = os.fstat(file.fileno()), file.read()
         except FileNotFoundError:
             if not create:
                 raise
-            self.before, self.text = None, b""
+            self.text = b""
         self.rows = read_rows(self.text)
 
-    def is_open_to_others(self):
+    def is_open_to_others(self) -> bool:
+        """Returns whether other users of this machine may do anything with the file."""
         return self.before is not None and stat.S_IMODE(self.before.st_mode) & stat.S_IRWXO != 0
 
-    def text_with(self, rows):
+    def text_with(self, rows: Sequence[bytes]) -> bytes:
         """Returns the text of the new file: the old bytes, an LF if they lack it, and the rows."""
         gap = b"\n" if self.text and not self.text.endswith(b"\n") else b""
         return self.text + gap + b"".join(rows)
 
-    def row_of(self, user):
-        """Returns the one row whose second field is the user, byte for byte."""
+    def row_of(self, user: bytes) -> Row:
+        """Returns the one row whose second field is the user, byte for byte.
+
+        # Errors
+        Raises `Fault` if there is none or more than one.
+        """
         rows = [row for row in self.rows if row.user == user]
         name = user.decode("utf-8", "replace")
         if not rows:
@@ -43,15 +52,15 @@ class UsersFile:
             raise Fault(self.name, "DuplicateUser", "lines %s are rows of %s: leave the right one" % (lines, name))
         return rows[0]
 
-    def text_without(self, row, new=None):
+    def text_without(self, row: Row, new: bytes | None = None) -> tuple[bytes, str | None]:
         """Returns the text of the new file without a row, or with a new one in its place, and the serial number of the
         remark above it, or None. The remark goes with the token."""
         lines, at = self.text.split(b"\n"), row.line - 1
         remark = SERIAL.fullmatch(lines[at - 1]) if at else None
         lines[at - bool(remark):at + 1] = [] if new is None else [new]
-        return b"\n".join(lines), remark and remark[1].decode("utf-8", "replace")
+        return b"\n".join(lines), remark[1].decode("utf-8", "replace") if remark else None
 
-    def remove_left(self):
+    def remove_left(self) -> None:
         """Removes what processes left that were killed while they wrote: it has all secrets. The lock is held, so none
         writes now."""
         folder, name = os.path.split(self.path)
@@ -59,8 +68,12 @@ class UsersFile:
             if re.fullmatch(re.escape(name) + r"\.new-\d+(-[0-9a-f]+)?", each):
                 os.unlink(os.path.join(folder, each))
 
-    def replace(self, text):
-        """Writes the text beside the file, with the mode and the owner of the file, and renames it."""
+    def replace(self, text: bytes) -> None:
+        """Writes the text beside the file, with the mode and the owner of the file, and renames it.
+
+        # Errors
+        Raises `Fault` if another program wrote the file meanwhile, and `OSError` if it can't be written.
+        """
         self.remove_left()
         beside = "%s.new-%d-%s" % (self.path, os.getpid(), secrets.token_hex(4))
         made = os.open(beside, os.O_WRONLY | os.O_CREAT | os.O_EXCL | os.O_NOFOLLOW, 0o600)
@@ -69,7 +82,7 @@ class UsersFile:
                 file.write(text)
                 file.flush()
                 if self.before:
-                    self.take_owner_and_mode(file.fileno())
+                    self.take_owner_and_mode(file.fileno(), self.before)
                 os.fsync(file.fileno())
             self.check_unchanged()
             os.rename(beside, self.path)
@@ -78,29 +91,35 @@ class UsersFile:
             raise
         sync_folder(self.path)
 
-    def take_owner_and_mode(self, file):
+    @staticmethod
+    def take_owner_and_mode(file: int, before: os.stat_result) -> None:
+        """Gives an open file the owner, the group and the mode of the file before.
+
+        # Errors
+        Raises `PermissionError` if this process may not, but for a group that may do nothing with the file.
+        """
         made = os.fstat(file)
-        if (made.st_uid, made.st_gid) != (self.before.st_uid, self.before.st_gid):
+        if (made.st_uid, made.st_gid) != (before.st_uid, before.st_gid):
             try:
-                os.fchown(file, self.before.st_uid, self.before.st_gid)
+                os.fchown(file, before.st_uid, before.st_gid)
             except PermissionError:
                 # A group that may do nothing with the file need not be kept, and a service isn't in that of its user.
-                if made.st_uid != self.before.st_uid or self.before.st_mode & stat.S_IRWXG:
+                if made.st_uid != before.st_uid or before.st_mode & stat.S_IRWXG:
                     raise
-        os.fchmod(file, stat.S_IMODE(self.before.st_mode))
+        os.fchmod(file, stat.S_IMODE(before.st_mode))
 
-    def check_unchanged(self):
-        """Raises a fault if another program wrote the file meanwhile."""
-        try:
+    def check_unchanged(self) -> None:
+        """Raises `Fault` if another program wrote the file meanwhile."""
+        now: os.stat_result | None = None
+        with contextlib.suppress(FileNotFoundError):
             now = os.stat(self.path)
-        except FileNotFoundError:
-            now = None
         told = [each and (each.st_dev, each.st_ino, each.st_size, each.st_mtime_ns) for each in (self.before, now)]
         if told[0] != told[1]:
             raise Fault(self.name, "Changed", "another program wrote it meanwhile; nothing is changed")
 
 
-def sync_folder(path):
+def sync_folder(path: str) -> None:
+    """Writes the folder of a file to the disk, so that a rename in it stays after a crash."""
     folder = os.open(os.path.dirname(path), os.O_RDONLY | os.O_DIRECTORY)
     try:
         os.fsync(folder)
@@ -109,8 +128,12 @@ def sync_folder(path):
 
 
 @contextlib.contextmanager
-def lock_beside(path):
-    """Holds the lock of the folder of a file, so that no second `onboard` changes a users file there."""
+def lock_beside(path: str) -> Iterator[None]:
+    """Holds the lock of the folder of a file, so that no second `onboard` changes a users file there.
+
+    # Errors
+    Raises `Fault` if another process holds it.
+    """
     folder = os.open(os.path.dirname(os.path.realpath(path)), os.O_RDONLY | os.O_DIRECTORY)
     try:
         try:
@@ -122,9 +145,13 @@ def lock_beside(path):
         os.close(folder)
 
 
-def ask_oathd(oathd, text, cluster):
+def ask_oathd(oathd: str, text: bytes, cluster: str | None) -> tuple[list[str], list[str]]:
     """Has oathd read the text of a users file by standard input. If there is a cluster file, returns the lines by which
-    members are compared, and what oathd notes of the text."""
+    members are compared, and what oathd notes of the text.
+
+    # Errors
+    Raises `Fault` if oathd refuses the text.
+    """
     words = [oathd, "check", "/dev/stdin", "--cluster", cluster] if cluster else [oathd, "lines"]
     done = subprocess.run(words, input=text, capture_output=True)
     if done.returncode:

@@ -1,0 +1,1 @@
+../tools/checkout.py
