@@ -227,7 +227,7 @@ def disk() -> None:
     expect("also after a restart", sam.ask(place("ann", "secret")).secret(), secret_of("ann"))
     told = "its end isn&#39;t known: the users file has the new row" in sam.ask(place("ann")).page
     expect("and the record tells", told, True)
-    with mock.patch("book.sync_folder"), mock.patch("users_file.sync_folder", side_effect=OSError("a fault")):
+    with mock.patch("book.sync_folder"), mock.patch("wakdulg_onboard.users_file.sync_folder", side_effect=OSError("a fault")):
         site.act(sam, "bob", "replace", kind="")
     expect("a fault after the change", "The users file is changed" in sam.alert(), True)
     expect("its secret", sam.ask(place("bob", "secret")).secret(), secret_of("bob"))
