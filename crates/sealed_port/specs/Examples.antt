@@ -81,6 +81,10 @@ passed_at address = record { now = None; address = address; bytes = [] }
 abbrev pub life_at : ℕ → GateLife
 life_at low = record { gate = gate_at (window_at low []) []; steps = Comes (Some 10) 7 [] ∷ [] }
 
+-- an incarnation without a step, so that its clock told nothing
+abbrev pub silent_life : GateLife
+silent_life = record { gate = first_gate; steps = [] }
+
 -- the making of the client's line
 abbrev pub line_making : Making
 line_making = record { bound = []; head = line_head; text = check_line }

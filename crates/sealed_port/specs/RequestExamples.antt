@@ -47,6 +47,10 @@ asked_gate = gate_of_operator (window_at 0 (1000000 ∷ [])) (status_request ∷
 abbrev pub operator_life : ℕ → GateLife
 operator_life low = record { gate = gate_of_operator (window_at low []) []; steps = Comes (Some 10) 7 [] ∷ [] }
 
+-- an incarnation of it without a step, so that its clock told nothing
+abbrev pub silent_operator_life : GateLife
+silent_operator_life = record { gate = operator_gate; steps = [] }
+
 -- the making of the operator's request
 abbrev pub request_making : Making
 request_making = record { bound = []; head = head_of_request; text = codes "STATUS" }

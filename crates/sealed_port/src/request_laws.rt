@@ -53,8 +53,8 @@ pub fn lines_and_requests_are_apart()
 ///
 /// A gate seals a report under the key of the request's operator, bound to the request's tag, for the request's
 /// address. Of the reports that an operator reads with its request's tag, the gate of the request's node made each
-/// after it opened exactly the request. The second has three premises. No tag was forged. No two sealed texts have the same
-/// tag. Gates sealed all reports under the key.
+/// after it opened exactly the request. The second has three premises. No tag was forged. No two sealed texts have the
+/// same tag. Gates sealed all reports under the key.
 pub fn reports_are_for_their_requests()
     ensures sealed { (gate : GateRecord) (request : AsideRecord) (page : List ℕ) (sealed : Sealed) →
         reported gate request page ≡ Some sealed → IsReportFor gate request page sealed }

@@ -16,7 +16,7 @@ ghost use Rattle.sealed_port.specs.Examples.{failed_at, failures_in, first_gate,
 ghost use Rattle.sealed_port.specs.Gate.{cause_of};
 ghost use Rattle.sealed_port.specs.Port.{counted_after, gate_after, handed_in, stand_in};
 ghost use Rattle.sealed_port.specs.ReportWorld.{GatesReport, IsAmongRequests};
-ghost use Rattle.sealed_port.specs.RequestExamples.{asked_gate, gate_of_operator, making_of_report, operator_at, operator_gate, operator_life, request_and_report, request_at, request_making, status_request};
+ghost use Rattle.sealed_port.specs.RequestExamples.{asked_gate, gate_of_operator, making_of_report, operator_at, operator_gate, operator_life, request_and_report, request_at, request_making, silent_operator_life, status_request};
 ghost use Rattle.sealed_port.specs.RequestRuns.{AreOperatorsInOrder, aside_in, is_same_request, taken_in};
 ghost use Rattle.sealed_port.specs.Requests.{asks, gate_taken, is_request, operator_with, reported, request_cause, request_ruling, requested};
 ghost use Rattle.sealed_port.specs.Runs.{Answers, Comes, Takes};
@@ -109,6 +109,9 @@ pub fn requests_can_be_broken()
     ensures low_mark { AreOperatorsInOrder (operator_life 0 ∷ operator_life 11999999 ∷ []) → ⊥ }
     ensures last_low_mark { AreOperatorsInOrder (operator_life 0 ∷ operator_life 12000000 ∷ operator_life 11999999 ∷ [])
         → ⊥ }
+    // the first one's clock told nothing, so that it is before all others
+    ensures low_mark_of_the_second { AreOperatorsInOrder (silent_operator_life ∷ operator_life 0
+        ∷ operator_life 11999999 ∷ []) → ⊥ }
     ensures distinct { IsDistinct is_same_request (status_request ∷ request_at 7 9 ∷ []) }
     ensures twice { IsDistinct is_same_request (status_request ∷ status_request ∷ []) → ⊥ }
     ensures last_twice { IsDistinct is_same_request (request_at 7 9 ∷ status_request ∷ status_request ∷ []) → ⊥ }

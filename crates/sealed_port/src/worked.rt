@@ -1,6 +1,6 @@
 //! Worked cases of a gate: client 258's line for node 2, and other datagrams.
 
-ghost use Rattle.std.specs.Prelude.{◌≡◌, ◌++◌, ◌∷◌, [], ◌-◌, ◌^◌, None, Ok, Some, codes, false, map, replicate, slice_set, true};
+ghost use Rattle.std.specs.Prelude.{◌≡◌, ℕ, ◌++◌, ◌∷◌, [], ◌-◌, ◌^◌, None, Ok, Some, codes, false, map, replicate, slice_set, true};
 ghost use Rattle.std.specs.List.{IsDistinct};
 ghost use Rattle.sealed_wire.specs.Bytes.{AreBytes};
 ghost use Rattle.sealed_wire.specs.Examples.{sealed_answer, sealed_line};
@@ -8,17 +8,17 @@ ghost use Rattle.sealed_wire.specs.Making.{AreMakings, IsMade, IsUnforged, makin
 ghost use Rattle.sealed_wire.specs.Sealed.{sealed_at};
 ghost use Rattle.sealed_port.specs.World.{GatesAnswer};
 ghost use Rattle.sealed_wire.specs.declared.head.Kind.TheVariants.{Answer, Line, Report, Request};
-ghost use Rattle.datagram_port.specs.Port.{Faulted, Offered, Quiet, Received};
-ghost use Rattle.datagram_port.specs.Setup.{Setup};
+ghost use Rattle.datagram_port.specs.Port.{Faulted, Offered, PortEvent, Quiet, Received};
+ghost use Rattle.datagram_port.specs.Setup.{GateSetup, Setup};
 ghost use Rattle.datagram_port.specs.declared.port.Received.TheVariants.{Datagram, Fault, Quiet as QuietReceive};
 ghost use Rattle.datagram_port.specs.declared.port.Sender.TheVariants.{Client, Peer};
 ghost use Rattle.replay_window.specs.declared.refusal.Refusal.TheVariants.{Again as OldMoment, Early as EarlyMoment, Late as LateMoment};
 ghost use Rattle.sealed_port.specs.Asked.{clashes, nonce_in, nonce_of, place_of, remembered, with_one, without};
 ghost use Rattle.sealed_port.specs.Failures.{failed_after, failures_after, failures_at, is_failure, is_limited, with_one_of};
 ghost use Rattle.sealed_port.specs.Causes.{cause_by, counted, nothing};
-ghost use Rattle.sealed_port.specs.Examples.{asked_at, asked_line, check_line, client_at, failed_at, failures_in, first_gate, gate_at, later_gate, life_at, no_limit, opened_line, passed_at, plain_address, answer_making, line_making, two_makings, window_at, zeros};
+ghost use Rattle.sealed_port.specs.Examples.{asked_at, asked_line, check_line, client_at, failed_at, failures_in, first_gate, gate_at, later_gate, life_at, no_limit, opened_line, passed_at, plain_address, silent_life, answer_making, line_making, two_makings, window_at, zeros};
 ghost use Rattle.sealed_port.specs.Gate.{admits, answered, cause_of, failures_told, gate_answered, gate_with, is_line, is_plain, opened, refusal_in, ruling, with_moment};
-ghost use Rattle.sealed_port.specs.Setup.{AreHeard, gate_setup, sealed_setup};
+ghost use Rattle.sealed_port.specs.Setup.{AreHeard, IsHandedFor, gate_setup, sealed_setup};
 ghost use Rattle.sealed_port.specs.Port.{ArePassedOver, Opens, PassesOver, counted_after, counted_over, gate_after, gate_offered, handed_in, offered, sealed_from, told_for};
 ghost use Rattle.sealed_port.specs.Runs.{Answers, AreGatesInOrder, Comes, IsAmong, WasTold, gate_run, is_same, opened_in};
 ghost use Rattle.sealed_port.specs.declared.cause.Cause.TheVariants.{Again, Early, Form, Late, Limited, Tag};
@@ -103,6 +103,8 @@ pub fn asked_lines_are_worked()
     ensures room { with_one (replicate 95 asked_line) (asked_at 7 [] [])
         ≡ replicate 95 asked_line ++ asked_at 7 [] [] ∷ [] }
     ensures full { with_one (asked_at 7 [] [] ∷ replicate 95 asked_line) asked_line ≡ replicate 96 asked_line }
+    ensures newest { with_one (replicate 96 asked_line) (asked_at 7 [] [])
+        ≡ replicate 95 asked_line ++ asked_at 7 [] [] ∷ [] }
     ensures opened { gate_with first_gate (Some 1) 7 (Some opened_line) ≡ later_gate }
     ensures unopened { gate_with first_gate (Some 1) 7 None ≡ first_gate }
     ensures windows { map (with_moment 258 9) (client_at 7 (window_at 0 []) ∷ client_at 258 (window_at 0 []) ∷ [])
@@ -220,6 +222,8 @@ pub fn lives_can_be_broken()
     ensures in_order { AreGatesInOrder (life_at 0 ∷ life_at 12000000 ∷ life_at 12000001 ∷ []) }
     ensures low_mark { AreGatesInOrder (life_at 0 ∷ life_at 11999999 ∷ []) → ⊥ }
     ensures last_low_mark { AreGatesInOrder (life_at 0 ∷ life_at 12000000 ∷ life_at 11999999 ∷ []) → ⊥ }
+    // the first one's clock told nothing, so that it is before all others
+    ensures low_mark_of_the_second { AreGatesInOrder (silent_life ∷ life_at 0 ∷ life_at 11999999 ∷ []) → ⊥ }
     ensures distinct { IsDistinct is_same (asked_line ∷ asked_at 7 [] [] ∷ []) }
     ensures twice { IsDistinct is_same (asked_line ∷ asked_line ∷ []) → ⊥ }
     ensures last_twice { IsDistinct is_same (asked_at 7 [] [] ∷ asked_line ∷ asked_line ∷ []) → ⊥ }
@@ -269,4 +273,8 @@ pub fn records_can_be_broken()
         → ⊥ }
     ensures of_a_plain_address { AreHeard (gate_setup first_gate) (Received (Client plain_address) [] ∷ [])
         (Received (Client plain_address) [] ∷ []) }
+    // any gate hands in nothing for a port that received nothing, and nothing for a byte if nobody may speak plainly
+    ensures for_nothing { (setup : GateSetup) (event : PortEvent) → IsHandedFor setup [] event → ⊥ }
+    ensures for_a_byte { (setup : GateSetup) (address byte : ℕ) (event : PortEvent) → setup.plain ≡ [] →
+        IsHandedFor setup (Received (Client address) (byte ∷ []) ∷ []) event → ⊥ }
 {}

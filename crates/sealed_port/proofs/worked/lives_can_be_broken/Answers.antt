@@ -14,6 +14,11 @@ returns-clause-last_low_mark c = λ order.
     let low : 12000000 ≤ 11999999 = order.1.0.0 258 10 (client_at 258 (window_at 12000000 [])) (client_at 258 (window_at 11999999 [])) (inl refl) refl refl in
     absurd (omega arith)
 
+pub returns-clause-low_mark_of_the_second : goal.returns-clause-low_mark_of_the_second
+returns-clause-low_mark_of_the_second c = λ order.
+    let low : 12000000 ≤ 11999999 = order.1.0.0 258 10 (client_at 258 (window_at 0 [])) (client_at 258 (window_at 11999999 [])) (inl refl) refl refl in
+    absurd (omega arith)
+
 pub returns-clause-distinct : goal.returns-clause-distinct
 unfolding IsDistinct
 returns-clause-distinct c = ((refl, tt), (tt, tt))

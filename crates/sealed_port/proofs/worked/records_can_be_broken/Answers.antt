@@ -12,7 +12,7 @@ use Rattle.sealed_port.specs.Examples.{check_line, first_gate, later_gate, plain
 use Rattle.sealed_port.specs.Gate.{GateRecord}
 use Rattle.sealed_port.specs.Port.{handed_in}
 use Rattle.sealed_port.specs.Setup.{IsHandedFor, gate_setup}
-use Rattle.sealed_port.proofs.SetupLemmas.{handed_for, none_received}
+use Rattle.sealed_port.proofs.SetupLemmas.{byte_unsealed, handed_for, none_received}
 use Rattle.sealed_port.proofs.worked.records_can_be_broken.Goals as goal
 
 unplain : (plain : List ℕ) (gate : GateRecord) (now : Option ℕ) → plain ≡ gate.plain → plain ≡ 2130706433 ∷ []
@@ -68,3 +68,12 @@ returns-clause-of_a_plain_address c = (
   },
   tt,
 )
+
+pub returns-clause-for_nothing : goal.returns-clause-for_nothing
+returns-clause-for_nothing c = λ setup event h. none_received h.before h.after h.received h.is_received
+
+pub returns-clause-for_a_byte : goal.returns-clause-for_a_byte
+returns-clause-for_a_byte c = λ setup address byte event plain h.
+    let none : handed_in h.gate h.now (Received (Client address) (byte ∷ [])) ≡ None = byte_unsealed address byte h.gate h.now (ap (λ (setup : GateSetup). setup.plain) h.of_setup ∙ plain) in
+    let e : Some event ≡ None = sym (handed_for setup (Received (Client address) (byte ∷ [])) event h) ∙ none in
+    absurd cc
