@@ -1,5 +1,5 @@
 -- The events of one more call.
-use Rattle.std.proofs.Common.{◌≡◌, ℕ, ◌+◌, Bool, false, true, List, [], ◌∷◌, ◌++◌, length, length-append, refl, sym, ap, ◌∙◌, append-nil, append_assoc, arith}
+use Rattle.std.proofs.Common.{◌≡◌, ℕ, suc, ◌+◌, Bool, false, true, List, [], ◌∷◌, ◌++◌, length, length-append, refl, sym, ap, ◌∙◌, append-nil, append_assoc}
 use Rattle.std.specs.declared.net.socket_addr.SocketAddrV4.{SocketAddrV4}
 use Rattle.udp_port.specs.declared.calls.Call.{Call}
 use Rattle.udp_port.specs.declared.calls.Call.TheVariants.{GivenUp}
@@ -61,18 +61,16 @@ abbrev tail_of : {X : Type 0} → List X → List X
 tail_of [] = []
 tail_of (x ∷ xs) = xs
 
--- a receive without a call, and one that gives up at once
+-- a receive without a call
 pub calls_nothing : (most : ℕ) → Perseveres most [] [] → ⊥
 calls_nothing most p = not_longer p.others p.last p.calls
 
-abbrev is_first : List (Call × List ℕ) → Bool
-is_first [] = false
-is_first (call ∷ calls) = is_given_up call.0
-
-pub gives_up_at_once : Perseveres 1 [] ((GivenUp, []) ∷ []) → ⊥
-gives_up_at_once p = from p.others p.calls p.gives_up
-  where
-    from : (others : List (Call × List ℕ)) → (GivenUp, []) ∷ [] ≡ others ++ p.last ∷ []
-        → (is_given_up p.last.0 ≡ true → length others ≡ 1) → ⊥
-    from [] calls few = let none : 0 ≡ 1 = few (ap is_first (sym calls)) in absurd (omega (arith, none))
-    from (x ∷ others) calls few = not_longer others p.last (ap tail_of calls)
+-- two lists of calls with one more at the end that are equal have as many calls before it, and the same last one
+pub ends_alike : (others more : List (Call × List ℕ)) (call last : Call × List ℕ) → others ++ call ∷ [] ≡ more ++ last ∷ []
+    → (call ≡ last) × (length others ≡ length more)
+ends_alike [] [] call last e = (cc, refl)
+ends_alike [] (other ∷ more) call last e = absurd (not_longer more last (ap tail_of e))
+ends_alike (other ∷ others) [] call last e = absurd (not_longer others call (ap tail_of (sym e)))
+ends_alike (other ∷ others) (another ∷ more) call last e =
+    let rest : (call ≡ last) × (length others ≡ length more) = ends_alike others more call last (ap tail_of e) in
+    (rest.0, ap (λ n. suc n) rest.1)

@@ -1,4 +1,4 @@
-ghost use Rattle.std.specs.Prelude.{◌≡◌, ℕ, ◌+◌, ◌*◌, Bool, Err, ◌<◌, ◌≤◌, ◌∷◌, [], List, Ok, Some, None, true, false, codes, map, replicate};
+ghost use Rattle.std.specs.Prelude.{◌≡◌, ℕ, ◌+◌, ◌*◌, Bool, Err, ◌<◌, ◌≤◌, ◌∷◌, [], List, Ok, Some, None, true, false, ◌++◌, codes, length, map, replicate};
 ghost use Rattle.std.specs.declared.io.ErrorKind.TheVariants.{ConnectionRefused, ConnectionReset, Interrupted, NotFound, TimedOut, WouldBlock};
 ghost use Rattle.std.specs.declared.net.socket_addr.SocketAddr.TheVariants.{V4, V6};
 ghost use Rattle.std.specs.declared.net.socket_addr.SocketAddrV6.{SocketAddrV6};
@@ -8,6 +8,7 @@ ghost use Rattle.std.specs.IoError.{error_kind};
 ghost use Rattle.datagram_port.specs.declared.port.Sender.TheVariants.{Client, Peer};
 ghost use Rattle.datagram_port.specs.declared.port.Received.TheVariants.{Datagram, Fault, Quiet};
 ghost use Rattle.datagram_port.specs.Port.{Faulted, Offered, Quiet as QuietEvent, Received as ReceivedEvent};
+ghost use Rattle.udp_port.specs.declared.calls.Call.{Call};
 ghost use Rattle.udp_port.specs.declared.calls.Call.TheVariants.{GivenUp, Hear, Send, Stuck, Turn};
 ghost use Rattle.udp_port.specs.declared.calls.Heard.TheVariants.{Datagram as Came, Failed, Other};
 ghost use Rattle.udp_port.specs.Address.{HasNoAddress, IsAddressOf, number_of, sender_of};
@@ -113,11 +114,14 @@ pub fn quiet_turns_keep_their_pace()
         → last_of before moments < due + interval * (paced_of due moments).quiets }
 {}
 
-/// Counterexamples: the calls of a receive that may pass over one datagram.
+/// Counterexamples: the calls of a receive that may pass over one datagram. Any receive that gives up made its maximum
+/// of other calls.
 pub fn receives_can_be_broken()
     ensures turn { Perseveres 1 [] ((Turn, []) ∷ []) }
     ensures gives_up { Perseveres 1 [] ((Hear true (Failed Interrupted), []) ∷ (GivenUp, []) ∷ []) }
     ensures gives_up_at_once { Perseveres 1 [] ((GivenUp, []) ∷ []) → ⊥ }
+    ensures gives_up_after { (most : ℕ) (others : List (Call × List ℕ)) →
+        Perseveres most [] (others ++ (GivenUp, []) ∷ []) → length others ≡ most }
     ensures nothing { Perseveres 1 [] [] → ⊥ }
 {}
 
