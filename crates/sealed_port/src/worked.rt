@@ -224,6 +224,8 @@ pub fn lives_can_be_broken()
     ensures last_low_mark { AreGatesInOrder (life_at 0 ∷ life_at 12000000 ∷ life_at 11999999 ∷ []) → ⊥ }
     // the first one's clock told nothing, so that it is before all others
     ensures low_mark_of_the_second { AreGatesInOrder (silent_life ∷ life_at 0 ∷ life_at 11999999 ∷ []) → ⊥ }
+    ensures same { map (is_same asked_line) (asked_at 258 [] [] ∷ asked_at 7 [] [] ∷ record asked_line { moment = 9 }
+        ∷ []) ≡ true ∷ false ∷ false ∷ [] }
     ensures distinct { IsDistinct is_same (asked_line ∷ asked_at 7 [] [] ∷ []) }
     ensures twice { IsDistinct is_same (asked_line ∷ asked_line ∷ []) → ⊥ }
     ensures last_twice { IsDistinct is_same (asked_at 7 [] [] ∷ asked_line ∷ asked_line ∷ []) → ⊥ }
