@@ -1,4 +1,4 @@
-//! The tests of what a node writes for people, by its public calls alone: `log_writer`, `node_log` and
+//! The tests of what is written for people, by the public calls alone: `log_writer`, `node_log`, `oathd_asking` and
 //! `operator_text`. They are a crate of their own, since a crate is proved again with its tests.
 #![tactic(auto)]
 
@@ -6,5 +6,7 @@
 mod log_writer_tests;
 #[cfg(test)]
 mod node_log_tests;
+#[cfg(test)]
+mod oathd_asking_tests;
 #[cfg(test)]
 mod operator_text_tests;

@@ -2,8 +2,9 @@
 //!
 //! An [`Asker`] has a socket. A request is sent at most three times, a second apart, sealed anew under the operator's
 //! key each time. [`print_report`] gathers the pages of a report, and prints its lines. [`survey`] asks all members of
-//! a cluster for their state, and prints a table. A first page that others follow counts on the last sending alone, so
-//! that a late one isn't joined with pages of another text.
+//! a cluster for their state, and prints a table ([`write_table`]). A [`Sent`] is a request on its way, without a
+//! socket. A first page that others follow counts on the last sending alone, so that a late one isn't joined with pages
+//! of another text.
 #![tactic(auto)]
 
 mod asker;
@@ -14,8 +15,6 @@ mod report;
 mod sent;
 mod states;
 mod table;
-#[cfg(test)]
-mod tests;
 
 pub use asker::Asker;
 pub use fault::AskFault;
@@ -25,4 +24,6 @@ pub use laws::{
     surveys_are_worked, surveys_can_be_broken,
 };
 pub use report::{AskedNode, print_report};
+pub use sent::{MAX_SENDINGS, Sent};
 pub use states::survey;
+pub use table::{Health, health_of, write_table};

@@ -1,6 +1,6 @@
 //! A request on its way to a node.
 
-ghost use Rattle.std.specs.Prelude.{◌≡◌, ◌<◌, All, IfNone, IfSome, Some, is_some, length};
+ghost use Rattle.std.specs.Prelude.{◌≡◌, ◌<◌, All, IfNone, IfSome, None, Some, is_some, length, true};
 ghost use Rattle.std.proofs.Props.{props};
 ghost use Rattle.operator_text.specs.Pages.{next_in};
 ghost use Rattle.operator_text.specs.Reading.{page_at};
@@ -17,16 +17,16 @@ use std::mem;
 use std::net::SocketAddrV4;
 
 /// The maximum number of times that a request is sent.
-pub(crate) const MAX_SENDINGS: usize = 3;
+pub const MAX_SENDINGS: usize = 3;
 
 /// The maximum number of sendings before the last one.
 const MAX_EARLIER: usize = MAX_SENDINGS - 1;
 
 /// The text of a report.
-pub(crate) type Page = ArrayVec<u8, MAX_PAGE_LEN>;
+pub type Page = ArrayVec<u8, MAX_PAGE_LEN>;
 
 /// Returns the tag of a sealed datagram, or None if the datagram is too short.
-pub(crate) fn tag_of(bytes: &[u8]) -> Option<[u8; TAG_LEN]>
+fn tag_of(bytes: &[u8]) -> Option<[u8; TAG_LEN]>
     ensures some { IfSome result (λ tag. tag ≡ tag_at bytes.now) }
     ensures none { IfNone result (length bytes.now < 32) }
 {
@@ -69,9 +69,10 @@ fn begins_more(text: &[u8], page: &[u8]) -> bool
     asks_first(text) && has_next(page)
 }
 
-/// An operator's request to a node, and the report on it when it came.
+/// An operator's request to a node, and the report on it when it came. It has no socket: whoever has one sends each
+/// datagram of [`Sent::seal`], and gives the received datagrams to [`Sent::take`].
 #[derive(Drop)]
-pub(crate) struct Sent<'k> {
+pub struct Sent<'k> {
     operator: &'k OperatorEntry,
     node: u8,
     address: SocketAddrV4,
@@ -91,7 +92,7 @@ pub(crate) struct Sent<'k> {
 
 impl<'k> Sent<'k> {
     /// Returns a request that was not sent yet.
-    pub(crate) fn new(
+    pub fn new(
         operator: &'k OperatorEntry,
         node: u8,
         address: SocketAddrV4,
@@ -111,24 +112,28 @@ impl<'k> Sent<'k> {
     }
 
     /// Returns the address of the node.
-    pub(crate) fn address(&self) -> SocketAddrV4
+    pub fn address(&self) -> SocketAddrV4
         ensures { result ≡ self.now.address }
     {
         self.address
     }
 
     /// Returns whether the report came.
-    pub(crate) fn is_answered(&self) -> bool {
+    pub fn is_answered(&self) -> bool
+        ensures { result ≡ is_some self.now.page }
+    {
         self.page.is_some()
     }
 
-    /// Returns the datagram of the request, sealed at a moment, and notes its tag. The request has no report then.
-    pub(crate) fn seal(&mut self, moment: u64) -> ArrayVec<u8, MAX_SEALED_LEN>
+    /// Returns the datagram of the request, sealed at a moment in microseconds, and notes its tag. The request has no
+    /// report then. After [`MAX_SENDINGS`] a report on a sending between the first two and the last one doesn't count.
+    pub fn seal(&mut self, moment: u64) -> ArrayVec<u8, MAX_SEALED_LEN>
         ensures bytes { result.items
             ≡ request_bytes self.old.operator.now self.old.node self.old.text.items moment }
         ensures same { (self.new.operator ≡ self.old.operator) × (self.new.node ≡ self.old.node)
             × (self.new.text ≡ self.old.text) }
         ensures last { self.new.last ≡ Some (tag_at result.items) }
+        ensures page { self.new.page ≡ None }
     {
         let head = Head {
             kind: Kind::Request,
@@ -178,11 +183,12 @@ impl<'k> Sent<'k> {
         }
     }
 
-    /// Takes a datagram, if it is the report on the request.
-    pub(crate) fn take(&mut self, bytes: &[u8])
+    /// Takes a datagram, if it is the report on the request and none came before it.
+    pub fn take(&mut self, bytes: &[u8])
         ensures same { (self.new.operator ≡ self.old.operator) × (self.new.node ≡ self.old.node)
             × (self.new.text ≡ self.old.text) }
         ensures last { self.new.last ≡ self.old.last }
+        ensures first { is_some self.old.page ≡ true → self.new.page ≡ self.old.page }
     {
         if self.page.is_none() {
             self.page = self.report_in(bytes);
@@ -190,7 +196,7 @@ impl<'k> Sent<'k> {
     }
 
     /// Returns the report, if it came. A first page that others follow is on the last sending.
-    pub(crate) fn page(&self) -> Option<&Page>
+    pub fn page(&self) -> Option<&Page>
         ensures report { IfSome result (λ page.
             IsReportOn self.now.operator.now self.now.node self.now.text.items page.now.items) }
         ensures kept { IfSome result (λ page.

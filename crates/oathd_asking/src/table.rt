@@ -13,7 +13,7 @@ use std::io::{self, Write};
 
 /// What a table says of a cluster.
 #[derive(Clone, Copy, Debug, PartialEq, Eq)]
-pub(crate) enum Health {
+pub enum Health {
     /// Each member answers and hears all others, and none differs.
     Well,
     /// A majority of the members answers.
@@ -179,8 +179,8 @@ fn told_in(texts: &[Vec<u8>]) -> usize
     texts.iter().filter(|text| !text.is_empty()).count()
 }
 
-/// Returns what the states of all members say of a cluster.
-pub(crate) fn health_of(texts: &[Vec<u8>]) -> Health
+/// Returns what the states of all members say of a cluster. The state of a member that doesn't tell it is empty.
+pub fn health_of(texts: &[Vec<u8>]) -> Health
     ensures { result ≡ spec.health_of (map (λ text. text.items) texts.now) }
 {
     if are_well(texts) {
@@ -294,8 +294,12 @@ fn write_rows<W: Write>(writer: &mut W, first: &[u8], texts: &[Vec<u8>]) -> io::
     Ok(())
 }
 
-/// Writes a table with a row for each member.
-pub(crate) fn write_table<W: Write>(writer: &mut W, texts: &[Vec<u8>]) -> io::Result<()>
+/// Writes a table with a row for each member, from the states of all members. The state of a member that doesn't tell
+/// it is empty.
+///
+/// # Errors
+/// Returns the error of the writer if it fails.
+pub fn write_table<W: Write>(writer: &mut W, texts: &[Vec<u8>]) -> io::Result<()>
     ensures { OnOk result (Appends (W.contents writer.old) (W.contents writer.new)
         (spec.table_text (map (λ text. text.items) texts.now))) }
 {

@@ -3,6 +3,7 @@
 ghost use Rattle.std.specs.Prelude.{◌≤◌, IfOk};
 ghost use Rattle.datagram_port.specs.Port.{IsWithin};
 
+use crate::entries::is_offer;
 use bundle_port::{BundlePort, is_bundle};
 use datagram_port::{Coming, ListPort, Port, PortEntry, Received, Sender};
 use gatekeeping::Gatekeeper;
@@ -28,14 +29,6 @@ fn len_of(received: Received) -> Result<usize, Fail>
             len,
         } => Ok(len),
         _ => Err(Fail::new("no datagram of member 1")),
-    }
-}
-
-/// Returns whether an entry is the offer of a datagram.
-fn is_offer(entry: &PortEntry, receiver: Sender, datagram: &[u8]) -> bool {
-    match entry {
-        PortEntry::Offered { to, bytes } => *to == receiver && bytes.as_slice() == datagram,
-        _ => false,
     }
 }
 

@@ -30,8 +30,6 @@ mod record;
 mod request_laws;
 mod request_worked;
 mod requests;
-#[cfg(test)]
-mod tests;
 mod worked;
 
 pub use aside::{MAX_ASIDE, SetAside};

@@ -38,11 +38,9 @@ const STAND_IN: Received = Received::Datagram {
 /// the node's offers. Each datagram of the record was handed in by the gate. The requests of operators wait in it.
 #[derive(Drop)]
 pub struct SealedPort<P: Port + Drop, C: Clock + Drop> {
-    /// The port below. Tests read what it was offered.
-    pub(crate) port: P,
+    port: P,
     clock: C,
-    /// Tests set requests aside.
-    pub(crate) gate: Gate,
+    gate: Gate,
     unopened: Unopened,
     calls: Record,
     ghost heard: { ∥ IfSome (P.events port) (λ below. AreHeard (gate_setup gate) below calls.events) ∥₁ },
@@ -108,6 +106,17 @@ impl<P: Port + Drop, C: Clock + Drop> SealedPort<P, C> {
         let unopened = self.unopened;
         self.unopened = Unopened::new();
         unopened
+    }
+
+    /// Returns the port below. Each datagram that was handed in was handed in for one that this port received. The
+    /// requests that wait are lost.
+    pub fn into_inner(self) -> P
+        ensures port { result ≡ self.port }
+        ensures heard { ∥ IfSome (P.events result) (λ below.
+            AreHeard (gate_setup self.gate) below self.calls.events) ∥₁ }
+    {
+        let SealedPort { port, .. } = self;
+        port
     }
 
     /// Sets aside the request in a datagram. Returns an empty datagram of member 0, or None if the gate doesn't open

@@ -1,9 +1,10 @@
 //! A gate over ports in memory.
 
-use crate::{Cause, Client, Failures, Gate, Operator, SealedPort, Unopened};
+use crate::entries::is_offer;
 use arrayvec::ArrayVec;
-use datagram_port::{Coming, ListClock, ListPort, Port, PortEntry, Received, Sender};
+use datagram_port::{Coming, ListClock, ListPort, Port, Received, Sender};
 use replay_window::Ahead;
+use sealed_port::{Client, Failures, Gate, Operator, SealedPort, Unopened};
 use sealed_wire::{ClientKey, Head, Kind, MAX_SEALED_LEN, Right, TAG_LEN, open_report, seal};
 use std::alloc::Global;
 use std::test::Fail;
@@ -182,19 +183,14 @@ fn counts_moments(rt: HostRuntime) -> Result<(), Fail> {
     Ok(())
 }
 
-/// Returns whether the last offer at the port below is `bytes` to `to`.
-fn offers(port: &ListPort<'_>, to: Sender, bytes: &[u8]) -> bool {
-    let Some(entries) = port.record() else {
+/// Returns whether the last event of a port below is the offer of `bytes` to `to`.
+fn offers(below: &ListPort<'_>, to: Sender, bytes: &[u8]) -> bool {
+    let Some(entries) = below.record() else {
         return false;
     };
     match entries.last() {
-        Some(
-            PortEntry::Offered {
-                to: other,
-                bytes: sent,
-            },
-        ) => *other == to && sent.as_slice() == bytes,
-        _ => false,
+        Some(entry) => is_offer(entry, to, bytes),
+        None => false,
     }
 }
 
@@ -207,8 +203,11 @@ fn seals_an_answer_once(rt: HostRuntime) -> Result<(), Fail> {
     let _line = port.receive(&mut [0; 512]);
     assert!(rt; !port.send(client, b"OK k2 0"));
     assert!(rt; port.send(client, b"OK k1 0"));
-    assert!(rt; offers(&port.port, Sender::Client(7), &ANSWER));
     assert!(rt; !port.send(client, b"OK k1 0"));
+    let below = port.into_inner();
+    let entries = below.record().ok_or("a record")?;
+    assert!(rt; entries.len() == 2);
+    assert!(rt; is_offer(&entries[1], Sender::Client(7), &ANSWER));
     Ok(())
 }
 
@@ -233,9 +232,12 @@ fn limits_failures(rt: HostRuntime) -> Result<(), Fail> {
 fn sends_unsealed(rt: HostRuntime) -> Result<(), Fail> {
     let mut port = port(rt.alloc(), &[], &[])?;
     assert!(rt; port.send(Sender::Peer(3), b"OV"));
-    assert!(rt; offers(&port.port, Sender::Peer(3), b"OV"));
     assert!(rt; port.send(Sender::Client(5), b"NO 1 BUSY"));
-    assert!(rt; offers(&port.port, Sender::Client(5), b"NO 1 BUSY"));
+    let below = port.into_inner();
+    let entries = below.record().ok_or("a record")?;
+    assert!(rt; entries.len() == 2);
+    assert!(rt; is_offer(&entries[0], Sender::Peer(3), b"OV"));
+    assert!(rt; is_offer(&entries[1], Sender::Client(5), b"NO 1 BUSY"));
     Ok(())
 }
 
@@ -307,9 +309,9 @@ fn reports_on_a_request(rt: HostRuntime) -> Result<(), Fail> {
     assert!(rt; port.poll(&mut [0; 512]) == Some(STAND_IN));
     let request = port.take_request().ok_or("a request")?;
     assert!(rt; !port.report(&request, &[b'\n'; 1025]));
-    assert!(rt; port.report(&request, b"node 2 of 3\nend\n"));
-    assert!(rt; offers(&port.port, Sender::Client(7), &REPORT));
     assert!(rt; port.report(&request, &[b'\n'; 1024]));
+    assert!(rt; port.report(&request, b"node 2 of 3\nend\n"));
+    assert!(rt; offers(&port.into_inner(), Sender::Client(7), &REPORT));
     Ok(())
 }
 
@@ -337,19 +339,39 @@ fn request_at(moment: u64) -> Result<ArrayVec<u8, MAX_SEALED_LEN>, Fail> {
     Ok(seal(&key, &[], head, b"STATUS"))
 }
 
+/// Returns nine requests of operator 258, a microsecond apart.
+fn nine_requests() -> Result<[ArrayVec<u8, MAX_SEALED_LEN>; 9], Fail> {
+    Ok([
+        request_at(100_000_000)?,
+        request_at(100_000_001)?,
+        request_at(100_000_002)?,
+        request_at(100_000_003)?,
+        request_at(100_000_004)?,
+        request_at(100_000_005)?,
+        request_at(100_000_006)?,
+        request_at(100_000_007)?,
+        request_at(100_000_008)?,
+    ])
+}
+
 /// A ninth request is passed over while 8 wait. It is set aside once one was taken.
 #[test]
 fn keeps_eight_requests(rt: HostRuntime) -> Result<(), Fail> {
-    let mut gate = operators_gate(rt.alloc())?;
-    for moment in 0..9 {
-        let request = request_at(100_000_000 + moment)?;
-        let cause = gate.set_aside(Some(100), 7, &request);
-        assert!(rt; cause.is_none() == (moment < 8));
+    let requests = nine_requests()?;
+    let mut comings = [Coming::Quiet; 11];
+    for place in 0..9 {
+        comings[place] = from(7, &requests[place]);
     }
-    let ninth = request_at(100_000_008)?;
-    assert!(rt; gate.set_aside(Some(100), 7, &ninth) == Some(Cause::Again));
-    assert!(rt; gate.take_request().is_some());
-    assert!(rt; gate.set_aside(Some(100), 7, &ninth).is_none());
+    comings[10] = from(7, &requests[8]);
+    let mut port = operators_port(rt.alloc(), &comings, &[100; 10])?;
+    for _ in 0..8 {
+        assert!(rt; port.receive(&mut [0; 512]) == STAND_IN);
+    }
+    assert!(rt; port.receive(&mut [0; 512]) == Received::Quiet);
+    assert!(rt; are(port.take_unopened(), [0, 0, 0, 0, 1, 0]));
+    assert!(rt; port.take_request().is_some());
+    assert!(rt; port.receive(&mut [0; 512]) == STAND_IN);
+    assert!(rt; are(port.take_unopened(), [0, 0, 0, 0, 0, 0]));
     Ok(())
 }
 
@@ -368,9 +390,12 @@ fn turns_a_line_away(rt: HostRuntime) -> Result<(), Fail> {
     let mut port = port(rt.alloc(), &comings, &[100, 100])?;
     port.drain();
     assert!(rt; port.receive(&mut [0; 512]) == STAND_IN);
-    assert!(rt; offers(&port.port, Sender::Client(7), &BUSY));
     assert!(rt; port.poll(&mut [0; 512]).is_none());
     assert!(rt; are(port.take_unopened(), [0, 0, 0, 0, 1, 0]));
+    let below = port.into_inner();
+    let entries = below.record().ok_or("a record")?;
+    assert!(rt; entries.len() == 3);
+    assert!(rt; is_offer(&entries[1], Sender::Client(7), &BUSY));
     Ok(())
 }
 
@@ -393,6 +418,6 @@ fn drains_what_waits(rt: HostRuntime) -> Result<(), Fail> {
     let again = port.receive(&mut buffer);
     assert!(rt; is_line(again, &buffer));
     assert!(rt; port.send(Sender::Client((1 << 48) + 258), b"OK k1 0"));
-    assert!(rt; offers(&port.port, Sender::Client(7), &ANSWER));
+    assert!(rt; offers(&port.into_inner(), Sender::Client(7), &ANSWER));
     Ok(())
 }

@@ -1,11 +1,10 @@
 //! The table of a cluster's members, and reports on requests that are sent twice.
 
-use crate::sent::{Sent, tag_of};
-use crate::table::{Health, health_of, write_table};
 use arrayvec::ArrayVec;
 use clients_file::OperatorEntry;
+use oathd_asking::{Health, Sent, health_of, write_table};
 use operator_text::{Report, Request, write_request};
-use sealed_wire::{ClientKey, MAX_REPORT_LEN, Right, head_of, seal_report};
+use sealed_wire::{ClientKey, MAX_REPORT_LEN, Right, TAG_LEN, head_of, seal_report};
 use std::alloc::Global;
 use std::net::{Ipv4Addr, SocketAddrV4};
 use std::test::Fail;
@@ -94,6 +93,12 @@ fn gates(operator: &OperatorEntry, from: u32) -> Sent<'_> {
     };
     let address = SocketAddrV4::new(Ipv4Addr::LOCALHOST, 7101);
     Sent::new(operator, 1, address, write_request(&request))
+}
+
+/// Returns the tag of a sealed request.
+fn tag_of(request: &[u8]) -> Option<[u8; TAG_LEN]> {
+    let (_, tag) = request.split_at_checked(request.len().checked_sub(TAG_LEN)?)?;
+    tag.try_into().ok()
 }
 
 /// Returns the datagram of the report on a sealed request.
