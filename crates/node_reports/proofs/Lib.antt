@@ -1,4 +1,3 @@
 pub mod PassLemmas
-pub mod RosterLemmas
 pub mod StandingLemmas
 pub mod TextLemmas

@@ -16,7 +16,7 @@ use Rattle.operator_text.specs.declared.request.Report.TheVariants.{Status, Gate
 use Rattle.operator_text.specs.declared.status.Status.{Status as StatusValue}
 use Rattle.seated_store.specs.Seated.{SeatedRecord}
 use Rattle.seated_store.specs.Seats.{seated_content}
-use Rattle.node_reports.specs.Roster.{roster_text}
+use Rattle.oathd_roster.specs.Roster.{roster_text}
 use Rattle.node_reports.specs.Standing.{TellsStanding, TellsStore, rows_within}
 use Rattle.node_reports.specs.declared.named.NamedRows.{NamedRows}
 use Rattle.node_reports.specs.declared.standing.Standing.{Standing}

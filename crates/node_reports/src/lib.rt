@@ -9,7 +9,6 @@ mod desk;
 mod laws;
 mod named;
 mod passes;
-mod roster;
 mod standing;
 mod text;
 mod told;
@@ -21,7 +20,6 @@ pub use laws::{
 };
 pub use named::{NamedRows, floors_text, gates_text, roster_text};
 pub use passes::PassList;
-pub use roster::write_roster;
 pub use standing::{Standing, version_of};
 pub use text::page_of_text;
 pub use told::Told;

@@ -3,12 +3,11 @@
 ghost use Rattle.std.specs.Prelude.{◌≡◌, ◌≤◌, length, replicate, IfOk};
 ghost use Rattle.floors_file.specs.NamedWriting.{named_floors_text};
 ghost use Rattle.named_floors.specs.Told.{telling_value, told_named};
-ghost use Rattle.node_reports.specs.Roster.{roster_text};
+ghost use Rattle.oathd_roster.specs.Roster.{roster_text};
 ghost use Rattle.node_reports.specs.Told.{telling_of};
 ghost use Rattle.oathd_database.specs.Gates.{gates_text};
 
 use crate::passes::PassList;
-use crate::roster::write_roster;
 use crate::told::Told;
 use floor_sql::SqlStore;
 use floor_store::{FloorStore, Pass, StoreFault};
@@ -16,6 +15,7 @@ use floors_file::write_named_floors;
 use named_floors::{TellingNode, named_floors_of};
 use oath_node::{Node, NodeFault};
 use oathd_database::{Fault, write_gates};
+use oathd_roster::write_roster;
 use operator_text::Report;
 use roster_sql::{Bond, Entry};
 use seated_store::SeatedStore;

@@ -1,6 +1,1 @@
-mod FaultLemmas
-mod ServeLemmas
-mod NamedLemmas
-mod WordsLemmas
 mod DoneLemmas
-mod ReloadLemmas

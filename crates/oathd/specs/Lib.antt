@@ -1,6 +1,2 @@
 pub mod Done
 pub mod Fault
-pub mod Named
-pub mod Reload
-pub mod Serve
-pub mod Users

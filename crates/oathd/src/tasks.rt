@@ -1,11 +1,13 @@
 //! Carries out the tasks of the program, and reports their faults with their causes.
 
-use crate::databases::Site;
-use crate::fault::{Fault, ReplacedFault, ToldFault};
+use crate::performing::perform as perform_action;
+use crate::told::{EndFault, ReplacedFault, ToldFault};
 use oathd_causes::{
-    Cause, Names, database_cause, names_cause, no_user_cause, roster_cause, seats_cause, task_cause,
+    Cause, Names, database_cause, names_cause, no_user_cause, path_advice, roster_cause,
+    seats_cause, task_cause,
 };
 use oathd_database::UnlockFault;
+use oathd_site::{Fault, Site};
 use oathd_tasks::{PROGRAM, TaskFault, perform};
 use oathd_words::Task;
 use program_edge::exit_status;
@@ -28,7 +30,7 @@ fn cause_of<'a>(
         Fault::Database(fault) | Fault::Unlock(UnlockFault::Command(fault)) => {
             database_cause(alloc, rt, names, text, fault)
         }
-        Fault::Floors(fault) => Some(Cause::Floors(fault.advice())),
+        Fault::Floors(fault) => Some(Cause::Floors(path_advice(fault))),
         Fault::Unlock(UnlockFault::NoUser(_)) => Some(no_user_cause(names)),
         Fault::Roster(fault) => Some(roster_cause(rt, names, fault)),
         Fault::Seats(fault) => seats_cause(names, fault),
@@ -36,7 +38,7 @@ fn cause_of<'a>(
     }
 }
 
-impl<'a> TaskFault<'a> for Fault<'a> {
+impl<'a> TaskFault<'a> for EndFault<'a> {
     /// The names in the words of a command over a database.
     type Names = Option<Names<'a>>;
 
@@ -52,16 +54,29 @@ impl<'a> TaskFault<'a> for Fault<'a> {
         reader: &mut R,
         held: &mut O,
     ) -> Result<(), Self> {
-        match task {
+        let end = match task {
             Task::Store {
                 database,
                 users,
                 action,
-            } => Site::new(alloc, rt, database, users, cluster).perform(Unknown, action, held),
+            } => {
+                let site = Site {
+                    alloc,
+                    rt,
+                    database,
+                    users,
+                    cluster,
+                };
+                perform_action(&site, Unknown, action, held)
+            }
             task => match perform(alloc, rt, &task, cluster, reader, held) {
                 Ok(()) => Ok(()),
                 Err(fault) => Err(Fault::Task(fault)),
             },
+        };
+        match end {
+            Ok(()) => Ok(()),
+            Err(fault) => Err(EndFault(fault)),
         }
     }
 
@@ -74,17 +89,18 @@ impl<'a> TaskFault<'a> for Fault<'a> {
         cluster: &'a [u8],
         errors: &mut E,
     ) -> u8 {
+        let EndFault(fault) = self;
         let cause = match names {
-            Some(names) => cause_of(alloc, rt, names, cluster, self),
+            Some(names) => cause_of(alloc, rt, names, cluster, fault),
             None => None,
         };
         match cause {
             Some(cause) if cause.is_replaced() => {
-                let replaced = ReplacedFault { fault: self, cause };
+                let replaced = ReplacedFault { fault, cause };
                 exit_status::<E, ReplacedFault>(errors, PROGRAM, Err(replaced))
             }
             Some(cause) => {
-                let told = ToldFault { fault: self, cause };
+                let told = ToldFault { fault, cause };
                 exit_status::<E, ToldFault>(errors, PROGRAM, Err(told))
             }
             None => exit_status::<E, Self>(errors, PROGRAM, Err(self)),

@@ -3,6 +3,8 @@ use Rattle.floors_file.specs.declared.gathered.FileFault.{FileFault}
 use Rattle.floors_file.specs.declared.gathered.FileFault.TheVariants as file
 use Rattle.floors_file.specs.declared.gathered.FilesFault.{FilesFault}
 use Rattle.floors_file.specs.declared.gathered.FilesFault.TheVariants as files
+use Rattle.oathd_site.specs.declared.floors.PathFault.{PathFault}
+use Rattle.oathd_site.specs.declared.floors.PathFault.TheVariants as path
 use Rattle.oathd_causes.specs.declared.floors.FloorsAdvice.{FloorsAdvice}
 use Rattle.oathd_causes.specs.declared.floors.FloorsAdvice.TheVariants as advice
 
@@ -24,3 +26,12 @@ floors_advice files.NotLost = advice.NameItself
 floors_advice (files.Missing node) = advice.TakeFile node
 floors_advice files.Surplus = advice.NameEachOnce
 floors_advice files.TooManyLost = advice.MakeAllAnew
+
+-- what to do about a fault of files that are named by their paths
+abbrev pub path_advice : PathFault → FloorsAdvice
+path_advice (path.TooLong name) = advice.TakeAgain
+path_advice (path.Line name fault) = advice.TakeAgain
+path_advice (path.NoUser name line) = advice.UseItsUsersFile
+path_advice (path.File name fault) = file_advice fault
+path_advice (path.Ahead name) = advice.SetTheClocks
+path_advice (path.Files fault) = floors_advice fault

@@ -1,9 +1,10 @@
 //! Says what to do about floors files that are not enough for a new store.
 
 ghost use Rattle.std.specs.Prelude.{◌≡◌};
-ghost use Rattle.oathd_causes.specs.Floors.{file_advice as spec_file_advice, floors_advice as spec_floors_advice};
+ghost use Rattle.oathd_causes.specs.Floors.{file_advice as spec_file_advice, floors_advice as spec_floors_advice, path_advice as spec_path_advice};
 
 use floors_file::{FileFault, FilesFault};
+use oathd_site::PathFault;
 use thiserror::Error;
 
 /// What to do about a fault of floors files.
@@ -63,5 +64,18 @@ pub fn floors_advice(fault: FilesFault) -> FloorsAdvice
         FilesFault::Missing(node) => FloorsAdvice::TakeFile(node),
         FilesFault::Surplus => FloorsAdvice::NameEachOnce,
         FilesFault::TooManyLost => FloorsAdvice::MakeAllAnew,
+    }
+}
+
+/// Returns what to do about a fault of floors files that are named by their paths.
+pub fn path_advice(fault: PathFault<'_>) -> FloorsAdvice
+    ensures { result ≡ spec_path_advice fault.entry }
+{
+    match fault {
+        PathFault::TooLong(_) | PathFault::Line(_, _) => FloorsAdvice::TakeAgain,
+        PathFault::NoUser(_, line) => file_advice(FileFault::NoUser(line)),
+        PathFault::File(_, fault) => file_advice(fault),
+        PathFault::Ahead(_) => FloorsAdvice::SetTheClocks,
+        PathFault::Files(fault) => floors_advice(fault),
     }
 }

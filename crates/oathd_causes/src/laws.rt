@@ -1,11 +1,12 @@
-ghost use Rattle.std.specs.Prelude.{◌≡◌, ◌∷◌, [], map, codes, Some, None, false, true};
+ghost use Rattle.std.specs.Borrow.{Bor};
+ghost use Rattle.std.specs.Prelude.{◌≡◌, ◌∷◌, [], ℕ, List, map, codes, Some, None, false, true};
 ghost use Rattle.std.specs.declared.io.ErrorKind.TheVariants.{AddrInUse, AddrNotAvailable, FileTooLarge, IsADirectory, NotADirectory, NotFound, PermissionDenied, QuotaExceeded, ReadOnlyFilesystem, StorageFull, TimedOut};
 ghost use Rattle.floor_store.specs.declared.fault.StoreFault.{StoreFault};
 ghost use Rattle.secret_text.specs.declared.fault.SecretFault.{SecretFault};
 ghost use Rattle.oathd_causes.specs.Causes.{address_cause, file_cause_of, key_cause, socket_cause_of};
 ghost use Rattle.floors_file.specs.declared.gathered.FileFault.{FileFault};
 ghost use Rattle.floors_file.specs.declared.gathered.FilesFault.{FilesFault};
-ghost use Rattle.oathd_causes.specs.Floors.{file_advice, floors_advice};
+ghost use Rattle.oathd_causes.specs.Floors.{file_advice, floors_advice, path_advice};
 ghost use Rattle.oathd_causes.specs.Named.{named_cause};
 ghost use Rattle.oathd_causes.specs.Remedies.{file_remedy, role_among, unfound_cause};
 ghost use Rattle.oathd_causes.specs.declared.address.AddressCause.{AddressCause};
@@ -17,7 +18,8 @@ ghost use Rattle.oathd_causes.specs.declared.remedy.FileRemedy.{FileRemedy};
 ghost use Rattle.oathd_causes.specs.declared.remedy.FileRole.{FileRole};
 ghost use Rattle.oathd_causes.specs.Roster.{names_advice};
 ghost use Rattle.oathd_causes.specs.declared.roster.NamesAdvice.{NamesAdvice};
-ghost use Rattle.oathd_causes.specs.declared.roster.NamesFault.{NamesFault};
+ghost use Rattle.oathd_site.specs.declared.floors.PathFault.{PathFault};
+ghost use Rattle.oathd_site.specs.declared.names.NamesFault.{NamesFault};
 ghost use Rattle.oathd_causes.specs.declared.socket.SocketCause.{SocketCause};
 
 /// Worked cases. The cause of each error.
@@ -89,6 +91,10 @@ pub fn advice_is_worked()
     ensures together { map floors_advice (FilesFault.File 2 FileFault.IsLost ∷ FilesFault.NotLost ∷ FilesFault.Missing 3
         ∷ FilesFault.Surplus ∷ FilesFault.TooManyLost ∷ []) ≡ FloorsAdvice.LeaveOut ∷ FloorsAdvice.NameItself
         ∷ FloorsAdvice.TakeFile 3 ∷ FloorsAdvice.NameEachOnce ∷ FloorsAdvice.MakeAllAnew ∷ [] }
+    ensures paths { (path : Bor (List ℕ)) → map path_advice (PathFault.TooLong path
+        ∷ PathFault.NoUser path 3 ∷ PathFault.File path FileFault.IsLost ∷ PathFault.Ahead path
+        ∷ PathFault.Files FilesFault.NotLost ∷ []) ≡ FloorsAdvice.TakeAgain ∷ FloorsAdvice.UseItsUsersFile
+        ∷ FloorsAdvice.LeaveOut ∷ FloorsAdvice.SetTheClocks ∷ FloorsAdvice.NameItself ∷ [] }
 {}
 
 /// Worked cases. What to do about each fault of names.

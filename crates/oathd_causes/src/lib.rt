@@ -22,14 +22,13 @@ mod remedy;
 mod roster;
 mod socket;
 mod space;
-mod standing;
 mod user;
 
 pub use address::{AddressCause, address_cause, address_in};
 pub use cause::{Cause, database_cause, task_cause};
 pub use database::{Expected, store_cause};
 pub use file::{FileCause, file_cause, file_cause_of};
-pub use floors::{FloorsAdvice, file_advice, floors_advice};
+pub use floors::{FloorsAdvice, file_advice, floors_advice, path_advice};
 pub use key::{KeyCause, key_cause};
 pub use laws::{
     advice_is_worked, causes_are_worked, names_are_worked, remedies_are_worked,
@@ -39,8 +38,7 @@ pub use named::{Named, StoreCause, named_cause};
 pub use names::Names;
 pub use remedy::{FileRemedy, FileRole, file_remedy};
 pub use roster::{
-    NamesAdvice, NamesFault, names_advice, names_cause, no_user_cause, roster_cause, seats_cause,
+    NamesAdvice, names_advice, names_cause, no_user_cause, roster_cause, seats_cause,
 };
 pub use socket::{SocketCause, socket_cause};
-pub use standing::Standing;
 pub use user::User;

@@ -1,7 +1,7 @@
 //! The files, the node and the address that the words of a command over a database name.
 
-use crate::standing::Standing;
 use cluster_file::{KeySource, read_cluster};
+use oathd_site::Standing;
 use oathd_words::{Action, ClientWords, ClusterWords, NamedAct, Task};
 use std::alloc::Global;
 use std::net::SocketAddrV4;

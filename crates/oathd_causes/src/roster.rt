@@ -9,39 +9,14 @@ use crate::named::StoreCause;
 use crate::names::Names;
 use oathd_roster::RosterFault;
 use oathd_seats::SeatsFault;
+use oathd_site::NamesFault;
 use thiserror::Error;
 
 /// What to do about a token that has the name of another one.
 const SAME_NAME_ADVICE: &str =
     "the token in that row has the name of an earlier one: give its user another secret";
 
-/// A fault of a command over a store by names: in its words, its cluster file or its users file.
-#[derive(Clone, Copy, Debug, PartialEq, Eq, Error)]
-pub enum NamesFault {
-    /// The file gives names, and the command creates a store without saying whether the cluster has served.
-    #[error("cluster: HasNames")]
-    PlainInit,
-    /// The file gives no names, and the command is for stores by names.
-    #[error("cluster: NoNames")]
-    NoNames,
-    /// The file gives names, and the command takes floors files without saying since when they were read.
-    #[error("cluster: NoSince")]
-    NoSince,
-    /// The file gives no names, and the node is to take its users file again when it changes.
-    #[error("cluster: NoNames")]
-    PlainReload,
-    /// The file gives names, and the command gives the tokens names without saying how many members the cluster had.
-    #[error("cluster: NoMembersWere")]
-    NoMembersWere,
-    /// The number of members that the cluster had, and the other number of members that the file has.
-    #[error("cluster: OtherMembers")]
-    OtherMembers(u8, u8),
-    /// The store's row with this number, from 1, is not of the kind of its token in the users file.
-    #[error("users: OtherKind {0}")]
-    OtherKind(u32),
-}
-
-/// What to do about such a fault.
+/// What to do about words, a cluster file or a users file that don't fit a store by names.
 #[derive(Clone, Copy, Debug, PartialEq, Eq, Error)]
 pub enum NamesAdvice {
     #[error("it gives names: oathd init takes --begins for a cluster that never served, else --lost or --anew")]

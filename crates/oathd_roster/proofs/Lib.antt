@@ -3,3 +3,4 @@ pub mod UsersLemmas
 mod OpenedLemmas
 mod EnrolledLemmas
 mod BegunLemmas
+mod RosterLemmas

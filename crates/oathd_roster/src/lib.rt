@@ -12,6 +12,7 @@ mod enrolment;
 mod fault;
 mod laws;
 mod opening;
+mod roster;
 mod users;
 
 pub use begin::{begin_store, open_created};
@@ -21,4 +22,5 @@ pub use enrolment::{enrolments_are_worked, fresh_tokens_are_ready};
 pub use fault::RosterFault;
 pub use laws::{enrolled_rows_are_lines, enrolled_rows_are_worked, faults_are_worked};
 pub use opening::open_named_store;
+pub use roster::write_roster;
 pub use users::{NamedUsers, read_named_users};

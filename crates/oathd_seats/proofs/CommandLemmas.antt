@@ -26,7 +26,7 @@ use Rattle.oathd_database.specs.declared.fault.Fault.TheVariants.{Memory, Cannot
 use Rattle.oathd_roster.specs.declared.cluster.NamedCluster.{NamedCluster}
 use Rattle.oathd_roster.specs.declared.fault.RosterFault.TheVariants.{Command, SameName, AnotherCluster, Full}
 use Rattle.oathd_seats.specs.Commands.{EndsOutputNamed, HasAuditedNamed, HasExportedNamed, HasToldGatesNamed, HasToldRoster}
-use Rattle.node_reports.specs.Roster.{roster_text}
+use Rattle.oathd_roster.specs.Roster.{roster_text}
 use Rattle.oathd_seats.specs.Seen.{HasSeen, IsNotSeen}
 use Rattle.oathd_seats.specs.Unlock.{IsNotUnlockedNamed, UnlocksNamed}
 use Rattle.oathd_seats.specs.declared.fault.SeatsFault.{SeatsFault}

@@ -18,7 +18,7 @@ use Rattle.oathd_database.specs.Text.{export_text}
 use Rattle.oathd_roster.specs.declared.cluster.NamedCluster.{NamedCluster}
 use Rattle.oathd_roster.specs.declared.fault.RosterFault.{RosterFault}
 use Rattle.oathd_roster.specs.declared.fault.RosterFault.TheVariants.{Command, SameName, AnotherCluster, Full}
-use Rattle.node_reports.specs.Roster.{roster_text}
+use Rattle.oathd_roster.specs.Roster.{roster_text}
 use Rattle.oathd_seats.specs.Seen.{HasSeen, IsNotEnrolled, IsNotSeenBy}
 use Rattle.oathd_seats.specs.declared.fault.SeatsFault.{SeatsFault}
 use Rattle.oathd_seats.specs.declared.fault.SeatsFault.TheVariants.{Roster, NotEnrolled, NoUser}

@@ -14,7 +14,7 @@ ghost use Rattle.oathd_seats.specs.Examples.{ann_and_bob, nobody, one_named, sma
 ghost use Rattle.oathd_seats.specs.Fault.{look_fault_of, seats_status};
 ghost use Rattle.oathd_seats.specs.Seen.{IsNotSeen};
 ghost use Rattle.oathd_seats.specs.Unlock.{IsNotUnlockedNamed};
-ghost use Rattle.node_reports.specs.Roster.{roster_line, roster_text, user_text};
+ghost use Rattle.oathd_roster.specs.Roster.{roster_line, roster_text, user_text};
 ghost use Rattle.oathd_seats.specs.declared.fault.SeatsFault.TheVariants.{NotEnrolled, Roster};
 
 /// Worked cases: each fault, and its exit status.

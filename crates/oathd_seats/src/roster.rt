@@ -5,9 +5,8 @@ ghost use Rattle.oathd_seats.specs.Commands.{EndsOutputNamed, HasToldRoster};
 
 use crate::fault::SeatsFault;
 use crate::seeing::see_store;
-use node_reports::write_roster;
 use oathd_database::Database;
-use oathd_roster::NamedCluster;
+use oathd_roster::{NamedCluster, write_roster};
 use otp_core::Settings;
 use sqlite::Alter;
 use std::alloc::Global;

@@ -2,7 +2,7 @@
 use Rattle.std.proofs.Common.{refl}
 use Rattle.std.specs.Fmt.{digits}
 use Rattle.hex.specs.Hex.{encode_with}
-use Rattle.node_reports.specs.Roster.{row_end, row_start}
+use Rattle.oathd_roster.specs.Roster.{row_end, row_start}
 use Rattle.oathd_seats.proofs.laws.rosters_are_worked.Goals as goal
 
 pub returns-clause-line : goal.returns-clause-line

@@ -14,7 +14,7 @@ use Rattle.oathd_database.specs.Gates.{gates_text}
 use Rattle.oathd_database.specs.Text.{export_text}
 use Rattle.oathd_database.proofs.BrokenLemmas.{clean_is, fallen_is, fallen_opened, fallen_sound, imported_is}
 use Rattle.oathd_seats.specs.Examples.{nothing_seen, small_cluster}
-use Rattle.node_reports.specs.Roster.{roster_text, row_start}
+use Rattle.oathd_roster.specs.Roster.{roster_text, row_start}
 use Rattle.oathd_seats.proofs.laws.seats_can_be_broken.Goals as goal
 
 pub returns-clause-exported : goal.returns-clause-exported

@@ -1,5 +1,0 @@
-use Rattle.oathd.proofs.NamedLemmas.{exported}
-use Rattle.oathd.proofs.databases.Site.export_named.Goals as goal
-
-pub returns : goal.returns
-returns g c = exported _ _ c.args.self.now.cluster.now c.args.settings c.args.place c.args.named.now _ _ c.me.result c.me.ensures.value _ c.in_ok-export_named_store.ensures.exported

@@ -1,6 +1,0 @@
-use Rattle.oathd.proofs.DoneLemmas.{floors_told}
-use Rattle.oathd.proofs.databases.Site.floors_among.Goals as goal
-
-pub returns : goal.returns
-returns g c =
-    floors_told _ _ c.args.node _ c.args.members c.in_ok-moment.moment _ _ c.in_ok-moment.ensures.moment c.in_ok-floors_store.ensures.told

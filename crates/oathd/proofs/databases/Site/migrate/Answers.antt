@@ -1,4 +1,0 @@
-use Rattle.oathd.proofs.databases.Site.migrate.Goals as goal
-
-pub returns : goal.returns
-returns g c = (_, c.in_ok-_conn._conn, c.in_ok-_conn.ensures.migrated)

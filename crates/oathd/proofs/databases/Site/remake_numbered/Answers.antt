@@ -1,7 +1,0 @@
-use Rattle.oathd.proofs.DoneLemmas.{replaced_so}
-use Rattle.oathd.proofs.databases.Site.remake_numbered.Goals as goal
-
-pub returns : goal.returns
-returns g c =
-    replaced_so _ _ c.args.settings c.args.place c.args.moment c.args.former _ _ c.me.result c.in_ok-store.store c.me.ensures.value c.in_ok-store.ensures
-    c.in_ok-write_store.ensures.written

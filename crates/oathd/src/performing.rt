@@ -1,0 +1,58 @@
+//! Carries out the commands over a database.
+
+ghost use Rattle.std.specs.Prelude.{◌<◌, IfOk};
+ghost use Rattle.sqlite_wal.specs.Files.{image_at};
+ghost use Rattle.oathd_database.specs.File.{FindsFiles};
+ghost use Rattle.oathd_words.specs.StoreWords.{IsActionInRange};
+ghost use Rattle.oathd_words.specs.declared.store_words.Action.TheVariants.{Audit, Export, Floors, Gates, Init, Level, Migrate, Remake, Unlock};
+ghost use Rattle.oathd.specs.Done.{IsDone};
+
+use oathd_acts::{audit, export, floors, gates, init, level, migrate, remake, unlock};
+use oathd_serving::serve_logged;
+use oathd_site::{Fault, Site};
+use oathd_words::Action;
+use sqlite::{FileFrom, FileStore, Start};
+use sqlite_trees::store::Store;
+use std::io::{self, Write};
+
+/// Carries out an action on the store of the database. `start` stands for the content of its
+/// files. `held` buffers the output until it is flushed.
+pub(crate) fn perform<'a, S: Start, O: Write>(
+    site: &Site<'_, 'a>,
+    start: S,
+    action: Action<'a>,
+    held: &mut O,
+) -> Result<(), Fault<'a>>
+    requires { IsActionInRange action }
+    ensures { IfOk result (λ _. IsDone ⟦<FileStore<FileFrom<S>> as Store>⟧ (FindsFiles (image_at S.Start))
+        action.entry site.now.cluster.now (O.contents held.old) (O.contents held.new)) }
+{
+    match action {
+        Action::Init {
+            node,
+            import,
+            moment,
+        } => init(site, start, node, import, moment, held),
+        Action::Remake {
+            node,
+            import,
+            moment,
+            former,
+        } => remake(site, start, node, import, moment, former, held),
+        Action::Serve {
+            cluster,
+            turns,
+            log,
+            clients,
+            reloads,
+        } => serve_logged(site, start, cluster, turns, log, clients, reloads),
+        Action::Export => export(site, start, held),
+        Action::Audit { node } => audit(site, start, node, held),
+        Action::Migrate { node } => migrate(site, start, node),
+        Action::Floors { node, count } => floors(site, start, node, count, held),
+        Action::Level { node, floors } => level(site, start, node, floors),
+        Action::Gates { node } => gates(site, start, node, held),
+        Action::Unlock { node, user } => unlock(site, start, node, user),
+        Action::Named { node, act, .. } => oathd_acts::act(site, start, node, act, held),
+    }
+}

@@ -1,0 +1,3 @@
+mod NamedLemmas
+mod WordsLemmas
+mod PlainLemmas

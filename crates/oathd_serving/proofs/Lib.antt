@@ -1,0 +1,5 @@
+mod FaultLemmas
+mod ServeLemmas
+mod EndsLemmas
+mod WordsLemmas
+mod ReloadLemmas

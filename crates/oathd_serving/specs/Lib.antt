@@ -1,0 +1,4 @@
+pub mod Ends
+pub mod Reload
+pub mod Serve
+pub mod Served
