@@ -8,4 +8,4 @@ pub use laws::{
     unforged_interleavings_are_genuine, unforged_interleavings_are_safe,
     unforged_interleavings_keep_devices,
 };
-pub use worked::{bytes_can_be_broken, named_interleavings_are_worked};
+pub use worked::{bytes_can_be_broken, heard_grants_can_be_broken, named_interleavings_are_worked};

@@ -16,7 +16,7 @@ use Rattle.vote_core.proofs.Basics.{Each, each_get}
 use Rattle.book_law.specs.Examples.{proposal_of_boot}
 use Rattle.book_law.specs.Lives.{Sealed, Terms, named_envelope}
 use Rattle.order_law.specs.Interleavings.{HearsSaid, Said, ToClientSaid, ToMemberSaid, WasSaid}
-use Rattle.order_law.specs.Examples.{ask_to, grant_of, other_grant}
+use Rattle.order_law.specs.Examples.{ask_to, floor_told, grant_of, other_grant}
 
 pub reads : (envelope : Envelope) → HasSpelling envelope.sender envelope.receiver envelope.message → envelope_at bare (datagram_bytes bare envelope.sender envelope.receiver envelope.message) ≡ Some envelope
 reads envelope spelling =
@@ -48,6 +48,30 @@ grant_spelled = (
     spanned = record { ordered = omega arith; short = omega arith };
   },
 )
+
+spelled_7 : HasSpelling 2 1 (Grant (proposal_of_boot 1 1) 7 (span_of 0 0))
+spelled_7 = (
+  record { from_first = omega arith; from_last = omega arith; to_first = omega arith; to_last = omega arith; apart = λ e. not_two (sym e); token_below = omega arith },
+  record {
+    in_range = record { first = omega arith; last = omega arith; boot = omega arith; seq = omega arith };
+    of_node = refl;
+    lo_below = omega arith;
+    hi_below = omega arith;
+    spanned = record { ordered = omega arith; short = omega arith };
+  },
+)
+
+pub reads_grant_of_7 : envelope_at bare (datagram_bytes bare 2 1 (grant_of 7).message) ≡ Some (grant_of 7)
+reads_grant_of_7 = reads (grant_of 7) spelled_7
+
+floor_spelled : HasSpelling 2 1 floor_told.message
+floor_spelled = (
+  record { from_first = omega arith; from_last = omega arith; to_first = omega arith; to_last = omega arith; apart = λ e. not_two (sym e); token_below = omega arith },
+  omega arith,
+)
+
+pub reads_floor : envelope_at bare (datagram_bytes bare 2 1 floor_told.message) ≡ Some floor_told
+reads_floor = reads floor_told floor_spelled
 
 pub reads_ask : envelope_at bare (datagram_bytes bare 1 2 (ask_to 2 1).message) ≡ Some (ask_to 2 1)
 reads_ask = reads (ask_to 2 1) ask_spelled

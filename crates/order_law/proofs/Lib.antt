@@ -7,5 +7,6 @@ pub mod Own
 pub mod Replies
 pub mod Served
 pub mod Stretches
+pub mod Stores
 pub mod Walk
 pub mod NineNodes

@@ -439,42 +439,6 @@ pub all_replaced : (setting : Setting) (items : List Item) → AllMay setting 0 
 unfolding state_after
 all_replaced setting items all before later node boot given floor is = may_after setting [] items before later node boot given floor all is
 
--- ---- no replacements
-
-abbrev pub NoGet : Step → Type 0
-NoGet (Gets boot given floor) = ⊥
-NoGet step = Unit {0}
-
-abbrev pub NoGets : List Step → Type 0
-NoGets [] = Unit {0}
-NoGets (step ∷ steps) = NoGet step × NoGets steps
-
-pub no_append : (xs ys : List Step) → NoGets xs → NoGets ys → NoGets (xs ++ ys)
-no_append [] ys h k = k
-no_append (x ∷ xs) ys h k = (h.0, no_append xs ys h.1 k)
-
-no_later : (xs ys : List Step) → NoGets (xs ++ ys) → NoGets ys
-no_later [] ys h = h
-no_later (x ∷ xs) ys h = no_later xs ys h.1
-
-member_there : (setting : Setting) (before : List Item) (item : Item) (later : List Item) → AreOfMembers setting (before ++ item ∷ later) → is_member setting.n item.node ≡ true
-member_there setting [] item later members = members.0
-member_there setting (b ∷ before) item later members = member_there setting before item later members.1
-
-no_get_there : (node : ℕ) (before : List Item) (item : Item) (later : List Item) → node ≡ item.node → NoGets (steps_at node (before ++ item ∷ later)) → NoGet item.step
-no_get_there node [] item later own h = (subst NoGets (own_steps node item later own) h).0
-no_get_there node (b ∷ before) item later own h =
-    no_get_there node before item later own (no_later (cond (eqb node b.node) (b.step ∷ []) []) (steps_at node (before ++ item ∷ later)) h)
-
--- without a replacement, no rule is asked for
-pub never_replaced : (setting : Setting) (items : List Item) → AreOfMembers setting items → ((node : ℕ) → is_member setting.n node ≡ true → NoGets (steps_at node items))
-    → (before later : List Item) (node boot : ℕ) (given : List ℕ) (floor : ℕ → ℕ) → items ≡ before ++ (record { node = node; step = Gets boot given floor }) ∷ later
-    → may_be_remade setting (state_of setting (history_of before)) node boot given floor ≡ true
-never_replaced setting items members none before later node boot given floor is =
-    let item : Item = record { node = node; step = Gets boot given floor } in
-    let member = member_there setting before item later (subst (AreOfMembers setting) is members) in
-    absurd (no_get_there node before item later refl (subst (λ l. NoGets (steps_at node l)) is (none node member)))
-
 -- the state after the items
 record After (setting : Setting) (e : ℕ) (items : List Item) (state : State) (places : ℕ → Place) (said : List Said) : Type 0 where
   stands : (node : ℕ) → is_member setting.n node ≡ true → Stands node ((state_after setting e (history_of items) state).processes node) (place_in_end setting node (places node) (steps_at node items))

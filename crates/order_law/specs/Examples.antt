@@ -5,15 +5,15 @@ use Rattle.client_lines.specs.declared.answer.Outcome.TheVariants.{Accepted}
 use Rattle.cluster_sim.specs.Examples.{told_outcome}
 use Rattle.floor_store.specs.Records.{span_of}
 use Rattle.vote_core.specs.Schedule.{Envelope}
-use Rattle.vote_core.specs.declared.message.Message.TheVariants.{Ask, Grant}
+use Rattle.vote_core.specs.declared.message.Message.TheVariants.{Ask, Floor, Grant}
 use Rattle.vote_wire.specs.Datagram.{datagram_bytes}
 use Rattle.vote_wire.specs.Key.{bare}
-use Rattle.oath_node.specs.Machine.{Peer}
+use Rattle.oath_node.specs.Machine.{NodeEvent, Peer}
 use Rattle.oath_node.specs.Turns.{FromClient, FromPeer}
 use Rattle.book_law.specs.Examples.{alone, ask_for, grant_for, maple_first, proposal_of_boot, silver_alone, silver_first, silver_line, silver_ok, silver_row, silver_text}
 use Rattle.book_law.specs.Lives.{Enrols, Store, Terms, store_with_rows}
 use Rattle.order_law.specs.Interleavings.{Item}
-use Rattle.order_law.specs.Steps.{Commits, Does, Ends, Hears, Open, Place, Replies, Says, Sends, Starts, Step, place_after, live_at}
+use Rattle.order_law.specs.Steps.{Closed, Commits, Does, Ends, Gone, Hears, Open, Place, Replies, Says, Sends, Starts, Step, Telling, place_after, live_at}
 
 -- a step of a node
 abbrev pub at : ℕ → Step → Item
@@ -56,6 +56,10 @@ takes_ask = at 2 (hears (ask_to 2 1)) ∷ at 2 (Commits (ask_for 1 ∷ [])) ∷ 
 -- node 2 grants it
 abbrev pub grants : Item
 grants = at 2 (Says (Sends (grant_of 1)))
+
+-- node 2 tells node 1 the floor 9 of silver
+abbrev pub floor_told : Envelope
+floor_told = record { sender = 2; receiver = 1; message = Floor 0 9 }
 
 -- the Grant comes to node 1
 abbrev pub hears_grant : Item
@@ -139,6 +143,18 @@ waits = place_after alone 1 heard commits_line
 -- the node after the process said it
 abbrev pub answered : Place
 answered = place_after alone 1 waits says_ok
+
+-- the inputs that a process has heard and not taken
+abbrev pub heard_in : Place → List NodeEvent
+heard_in (Closed store) = []
+heard_in (Open live) = live.heard
+heard_in (Gone former) = []
+
+-- the outputs that it still has to say
+abbrev pub waiting_in : Place → List Telling
+waiting_in (Closed store) = []
+waiting_in (Open live) = live.waiting
+waiting_in (Gone former) = []
 
 -- a store in which maple's floor is greater than silver's
 abbrev pub maple_ahead : Store

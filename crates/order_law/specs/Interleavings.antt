@@ -37,15 +37,19 @@ abbrev pub history_of : List Item → List Action
 history_of [] = []
 history_of (item ∷ items) = actions_of item.node item.step ++ history_of items
 
+-- Each replacement of a store among the items is allowed by the rule of the votes, after the items before it.
+abbrev pub AreReplaced : Setting → List Item → Type 0
+AreReplaced setting items = (before later : List Item) (node boot : ℕ) (given : List ℕ) (floor : ℕ → ℕ)
+    → items ≡ before ++ (record { node = node; step = Gets boot given floor }) ∷ later
+    → may_be_remade setting (state_of setting (history_of before)) node boot given floor ≡ true
+
 -- An interleaving: the items of each member are its steps in order, from its first store on. The order between the
 -- members is free. A lost store is replaced if the rule of the votes allows it after the items before.
 pub record IsInterleaving (setting : Setting) (items : List Item) : Type 0 where
   pub members : AreOfMembers setting items
   pub steps : (node : ℕ) → is_member setting.n node ≡ true
       → AreSteps setting node (first_place setting node) (steps_at node items)
-  pub replaced : (before later : List Item) (node boot : ℕ) (given : List ℕ) (floor : ℕ → ℕ)
-      → items ≡ before ++ (record { node = node; step = Gets boot given floor }) ∷ later
-      → may_be_remade setting (state_of setting (history_of before)) node boot given floor ≡ true
+  pub replaced : AreReplaced setting items
 
 -- ---- What was said
 

@@ -15,6 +15,6 @@ pub use laws::{
 };
 pub use nine_nodes::nine_nodes_are_safe;
 pub use worked::{
-    interleavings_are_worked, interleavings_can_be_broken, orders_are_worked, starts_can_be_broken,
-    steps_can_be_broken,
+    interleavings_are_worked, interleavings_can_be_broken, orders_are_worked, places_are_worked,
+    starts_can_be_broken, steps_can_be_broken,
 };

@@ -1,15 +1,15 @@
 //! Worked interleavings, and interleavings that break one condition.
 
-ghost use Rattle.std.specs.Prelude.{◌≡◌, ◌++◌, [], ◌∷◌, ℕ, List, Option, None, Some, codes};
+ghost use Rattle.std.specs.Prelude.{◌≡◌, ◌++◌, [], ◌∷◌, ℕ, List, Option, None, Some, codes, ◌+◌};
 ghost use Rattle.client_lines.specs.declared.answer.Outcome.TheVariants.{Accepted};
 ghost use Rattle.cluster_sim.specs.Examples.{told_outcome};
 ghost use Rattle.otp_core.specs.Acceptance.{HaveSingleUse};
 ghost use Rattle.vote_core.specs.Cases.{accepted};
 ghost use Rattle.book_law.specs.Broken.{old_grant};
-ghost use Rattle.book_law.specs.Examples.{alone, first_key, grant_for, maple_alone, maple_first, silver_alone, silver_first, silver_line, silver_row, silver_text, three};
-ghost use Rattle.book_law.specs.Lives.{Enrols, Offers, Raises, Stops, Takes, accepted_in, answered_in, store_with_rows};
-ghost use Rattle.oath_node.specs.Machine.{Tick};
-ghost use Rattle.book_law.specs.PartExamples.{replied, silver_taken};
+ghost use Rattle.book_law.specs.Examples.{alone, first_key, grant_for, maple_alone, maple_first, silver_alone, silver_first, silver_line, silver_row, silver_text, three, silver_ok};
+ghost use Rattle.book_law.specs.Lives.{Enrols, Offers, Raises, Stops, Takes, accepted_in, answered_in, store_with_rows, Setting, Store, Terms, seen_in, store_under};
+ghost use Rattle.oath_node.specs.Machine.{Tick, opened_node};
+ghost use Rattle.book_law.specs.PartExamples.{replied, silver_taken, silver_opened};
 ghost use Rattle.book_law.specs.SeedExamples.{one_device};
 ghost use Rattle.book_law.specs.Uses.{WasProcess};
 ghost use Rattle.datagram_port.specs.Port.{Received};
@@ -17,10 +17,13 @@ ghost use Rattle.datagram_port.specs.declared.port.Sender.TheVariants.{Client as
 ghost use Rattle.floor_store.specs.Content.{Content};
 ghost use Rattle.vote_core.specs.Schedule.{last_boot};
 ghost use Rattle.vote_wire.specs.Key.{bare};
+ghost use Rattle.oath_node.specs.Turns.{FromPeer};
+ghost use Rattle.vote_wire.specs.Datagram.{datagram_bytes};
+ghost use Rattle.book_law.specs.Seeds.{AreGreatest, HaveSeedsOnce};
 ghost use Rattle.order_law.specs.Devices.{AreGreatestSteps, IsGreatestStep, StartsAreGreatest};
-ghost use Rattle.order_law.specs.Examples.{accepted_twice, accepts, alone_with, answered, ask_to, asks, at, both_start, commits_line, forged, grant_of, granted_early, grants, heard, hears, hears_grant, hears_line, hears_silver, maple_ahead, opened, says_ok, silver_login, stint, takes_ask, waits};
-ghost use Rattle.order_law.specs.Interleavings.{AreOfMembers, IsCaused, IsCausal, IsInterleaving, ToClientSaid, ToMemberSaid, first_place, history_of, said_in, said_of, steps_at};
-ghost use Rattle.order_law.specs.Steps.{AreOfProcess, Closed, Commits, Does, Ends, Gets, Gone, HasSteps, IsOfProcess, IsStep, Loses, Open, Pauses, Replies, Says, Sends, Starts, actions_of, cleared_in, entries_of_steps, live_at};
+ghost use Rattle.order_law.specs.Examples.{accepted_twice, accepts, alone_with, answered, ask_to, asks, at, both_start, commits_line, forged, grant_of, granted_early, grants, heard, hears, hears_grant, hears_line, hears_silver, maple_ahead, opened, says_ok, silver_login, stint, takes_ask, waits, floor_told, heard_in, waiting_in};
+ghost use Rattle.order_law.specs.Interleavings.{AreOfMembers, IsCaused, IsCausal, IsInterleaving, ToClientSaid, ToMemberSaid, first_place, history_of, said_in, said_of, steps_at, AreCaused, AreReplaced, Item, Said, places_after, said_before, said_by};
+ghost use Rattle.order_law.specs.Steps.{AreOfProcess, Closed, Commits, Does, Ends, Gets, Gone, HasSteps, IsOfProcess, IsStep, Loses, Open, Pauses, Replies, Says, Sends, Starts, actions_of, cleared_in, entries_of_steps, live_at, Hears, Place, place_after, place_in_end};
 
 /// Worked cases: a login with a Grant that another node said before.
 pub fn interleavings_are_worked()
@@ -77,6 +80,13 @@ pub fn interleavings_can_be_broken()
     ensures replaced_at_a_used_boot { IsInterleaving three
         (silver_login ++ at 1 Loses ∷ at 1 (Gets 1 (0 ∷ []) (λ token. 1)) ∷ []) → ⊥ }
     ensures of_no_member { IsInterleaving three (at 4 (Does (Enrols 4 0 0)) ∷ []) → ⊥ }
+    // The rule of replacements alone.
+    ensures rule_of_no_replacement { AreReplaced three [] }
+    ensures rule_of_floors { AreReplaced three (silver_login ++ at 1 Loses ∷ at 1 (Gets 2 (0 ∷ []) (λ token. 0)) ∷ [])
+        → ⊥ }
+    ensures rule_of_boots { AreReplaced three (silver_login ++ at 1 Loses ∷ at 1 (Gets 1 (0 ∷ []) (λ token. 1)) ∷ [])
+        → ⊥ }
+    ensures rule_of_losses { AreReplaced three (at 1 (Gets 2 (0 ∷ []) (λ token. 1)) ∷ []) → ⊥ }
 {}
 
 /// Counterexamples: each condition of a node's next step fails for a minimal one.
@@ -129,7 +139,22 @@ pub fn orders_are_worked()
         ≡ ToMemberSaid (record { key = first_key; envelope = ask_to 2 0 })
         ∷ ToMemberSaid (record { key = first_key; envelope = ask_to 3 0 })
         ∷ ToMemberSaid (record { key = first_key; envelope = grant_of 0 }) ∷ [] }
+    ensures said_in_former_times { said_before (old_grant 2)
+        ≡ ToMemberSaid (record { key = first_key; envelope = grant_of 0 }) ∷ [] }
     ensures heard_unsaid { IsCaused (Open (live_at silver_first bare silver_row)) [] (hears (grant_of 0)) → ⊥ }
+    // What nobody need have said: a floor, what comes from another address, and a vote about a number without a seat.
+    ensures heard_floor { IsCaused (Open (live_at silver_first bare silver_row)) [] (hears floor_told) }
+    ensures heard_from_another { IsCaused (Open (live_at silver_first bare silver_row)) []
+        (Hears (FromPeer 3 (datagram_bytes bare 2 1 (grant_of 0).message))) }
+    ensures heard_for_nobody { IsCaused (Open (live_at silver_first bare silver_row)) [] (hears (grant_of 7)) }
+    ensures first_cause { (setting : Setting) (places : ℕ → Place) (said : List Said) (item : Item) (items : List Item)
+        → AreCaused setting places said (item ∷ items) → IsCaused (places item.node) said item.step }
+    ensures later_causes { (setting : Setting) (places : ℕ → Place) (said : List Said) (item : Item)
+        (items : List Item) → AreCaused setting places said (item ∷ items)
+        → AreCaused setting (places_after setting places item)
+        (said ++ said_by item.node (places item.node) item.step) items }
+    ensures causes { (setting : Setting) (items : List Item) → IsCausal setting items
+        → AreCaused setting (first_place setting) (said_before setting) items }
     ensures of_members { AreOfMembers three (at 3 Loses ∷ at 1 Loses ∷ []) }
     ensures of_no_member { AreOfMembers three (at 4 Loses ∷ []) → ⊥ }
     ensures of_no_member_later { AreOfMembers three (at 1 Loses ∷ at 0 Loses ∷ []) → ⊥ }
@@ -153,4 +178,41 @@ pub fn starts_can_be_broken()
     ensures members { StartsAreGreatest one_device three (at 2 (Does (Enrols 2 0 0)) ∷ at 2 (Does (Enrols 2 1 1))
         ∷ at 2 (Starts silver_alone bare) ∷ []) → ⊥ }
     ensures no_starts { StartsAreGreatest one_device three [] }
+    ensures once { (seed : ℕ → ℕ) (terms : Terms) (port : List ℕ) (store : Store)
+        → IsGreatestStep seed (Closed store) (Starts terms port) → HaveSeedsOnce seed terms.seats }
+    ensures each_greatest { (seed : ℕ → ℕ) (terms : Terms) (port : List ℕ) (store : Store)
+        → IsGreatestStep seed (Closed store) (Starts terms port) → AreGreatest seed terms.seats store }
+{}
+
+/// Worked cases: where a step leads node 1, which is alone.
+pub fn places_are_worked()
+    ensures starts { place_after alone 1 (Closed silver_row) (Starts silver_alone bare) ≡ opened }
+    ensures begins { live_at silver_alone bare silver_row ≡ record {
+      terms = silver_alone;
+      port = bare;
+      found = silver_row;
+      state = opened_node (seen_in silver_row (0 ∷ []));
+      received = 0;
+      heard = [];
+      waiting = [];
+    } }
+    ensures hears { heard ≡ Open (record (live_at silver_alone bare silver_row) {
+      received = 1;
+      heard = silver_line ∷ [];
+    }) }
+    ensures commits { heard_in waits ≡ [] }
+    ensures says { waiting_in waits ≡ Replies 7 silver_ok.bytes ∷ [] }
+    ensures said { waiting_in answered ≡ [] }
+    ensures pauses { place_after alone 1 heard (Pauses None)
+        ≡ Open (record (live_at silver_alone bare silver_row) { heard = silver_line ∷ [] }) }
+    ensures ends { place_after alone 1 opened (Ends [])
+        ≡ Closed (store_under (0 ∷ []) silver_opened silver_row) }
+    ensures ends_at_the_commit { place_after alone 1 heard (Ends (silver_line ∷ []))
+        ≡ Closed (store_under (0 ∷ []) silver_taken silver_row) }
+    ensures loses { place_after alone 1 (Closed silver_row) Loses ≡ Gone (store_with_rows 1 (0 ∷ []) (λ token. 0)) }
+    ensures loses_inside { place_after alone 1 opened Loses ≡ Gone (store_with_rows 2 (0 ∷ []) (λ token. 0)) }
+    ensures gets { place_after alone 1 (Gone silver_row) (Gets 5 (0 ∷ 1 ∷ []) (λ token. token + 3))
+        ≡ Closed (store_with_rows 5 (0 ∷ 1 ∷ []) (λ token. token + 3)) }
+    ensures in_end { place_in_end alone 1 (Closed silver_row)
+        (Starts silver_alone bare ∷ hears_line ∷ commits_line ∷ says_ok ∷ []) ≡ answered }
 {}

@@ -6,6 +6,7 @@ pub mod Raised
 pub mod Enrolled
 pub mod Devices
 pub mod Orders
+pub mod LoneRun
 pub mod Processes
 pub mod Runs
 pub mod Openings

@@ -1,22 +1,23 @@
 -- Runs by names keep the rule of openings in the order in which they happened.
-use Rattle.std.proofs.Common.{◌≡◌, ℕ, Bool, true, List, [], ◌∷◌, ◌++◌, sym, ap, subst, ◌∙◌}
+use Rattle.std.proofs.Common.{ℕ, Bool, List, [], ◌∷◌, ◌++◌, inl, inr, sym, subst}
 use Rattle.sqlite.specs.Store.{Ghosts}
 use Rattle.sqlite.specs.Held as sql
 use Rattle.floor_sql.specs.declared.put.Put.{Put}
 use Rattle.roster_sql.specs.declared.entry.Entry.{Entry}
-use Rattle.vote_core.specs.Schedule.{is_member}
 use Rattle.vote_wire.specs.Key.{bare}
-use Rattle.book_law.specs.Lives.{Setting, Store}
+use Rattle.book_law.specs.Lives.{Setting, Store, store_with_rows}
 use Rattle.book_law.specs.Seeds.{AreGreatest, HaveSeedsOnce}
 use Rattle.book_law.specs.Uses.{first_store, written_store}
 use Rattle.order_law.specs.Devices.{AreGreatestSteps, StartsAreGreatest}
 use Rattle.order_law.specs.Interleavings.{Item, steps_at}
-use Rattle.order_law.specs.Steps.{Closed, Does, Ends, Place, Starts, Step, place_after, place_in_end}
+use Rattle.order_law.specs.Steps.{Closed, Does, Ends, Gets, Loses, Place, Starts, Step, place_after, place_in_end}
 use Rattle.order_law.proofs.Devices.{first_greatest_steps, greatest_steps_append, no_start, process_greatest}
-use Rattle.served_law.specs.Devices.{HaveDevices, HaveOneSeed}
-use Rattle.served_law.specs.Orders.{AreStepsOf, AreStepsOfRun, IsOrderOf, enrolling, opening_steps}
-use Rattle.served_law.specs.Runs.{AreAllNamedUses, AreNamedUses, IsRunOver, NamedRun, NamedUse, RunsBy, WritesBy, store_found, store_left, terms_in}
+use Rattle.order_law.proofs.Stores.{may_lose}
+use Rattle.served_law.specs.Devices.{HaveDevices, HaveDevicesInStores, HaveOneSeed}
+use Rattle.served_law.specs.Orders.{AreFirstOf, AreStepsOf, AreStepsOfRun, HasStepsOf, HaveHappened, HaveStepsOf, IsOrderOf, enrolling, opening_steps}
+use Rattle.served_law.specs.Runs.{AreAllNamedStores, AreNamedStores, AreNamedUses, IsRunOver, Keeps, NamedRun, NamedStores, NamedUse, Replaces, RunsBy, WritesBy, store_found, store_left, terms_in}
 use Rattle.served_law.proofs.Openings.{greatest_opened}
+use Rattle.served_law.proofs.Orders.{first_keep_store}
 
 -- ---- an opening starts no process
 
@@ -66,12 +67,35 @@ module _ {S U : Type 0} (g : Ghosts S) (finds : sql.Held S → Type 0) (answers 
       subst (AreGreatestSteps seed setting node (Closed store)) (sym of.1)
       (no_start seed (Closed store) (Does action) tt, named_greatest_steps node (written_store setting action store) later are.1 devices of.0 of.2)
 
+  -- ---- all stores of a member
+
+  first_greatest : (node : ℕ) (store : Store) (named : List (NamedUse U)) (are : AreNamedUses g finds answers setting node names store named) → HaveDevices g finds answers setting node names seed store named are
+      → (has : HasStepsOf g finds answers setting node names store named are) (steps : List Step) → AreFirstOf steps has.steps → AreGreatestSteps seed setting node (Closed store) steps
+  first_greatest node store named are devices has steps f =
+      let all = named_greatest_steps node store named are devices has.steps has.are_of in
+      first_greatest_steps seed setting node (Closed store) steps f.later (subst (AreGreatestSteps seed setting node (Closed store)) f.all_are all)
+
+  happened_greatest : (node : ℕ) (store : Store) (stores : NamedStores U) (are : AreNamedStores g finds answers setting node names store stores) → HaveDevicesInStores g finds answers setting node names seed store stores are
+      → (have : HaveStepsOf g finds answers setting node names store stores are) (steps : List Step) → HaveHappened g finds answers setting node names store stores are have steps → AreGreatestSteps seed setting node (Closed store) steps
+  happened_greatest node store (Keeps named) are devices have steps f = first_greatest node store named are devices have steps f
+  happened_greatest node store (Replaces named boot given floor later) are devices have steps (inl f) = first_greatest node store named are.0 devices.0 have.0 steps f
+  happened_greatest node store (Replaces named boot given floor later) are devices have steps (inr lost) =
+      let first = lost.0 in
+      let may = may_lose setting node store first (first_keep_store g finds answers setting names node store named are.0 have.0 first lost.3) in
+      let at : Place = place_in_end setting node (Closed store) first in
+      let gone : Place = place_after setting node at Loses in
+      let new : Store = store_with_rows boot given floor in
+      let rest : AreGreatestSteps seed setting node gone lost.1 = elim lost.4 [
+        | inl none ↦ subst (AreGreatestSteps seed setting node gone) (sym none) tt
+        | inr got ↦ subst (AreGreatestSteps seed setting node gone) (sym got.1)
+            (no_start seed gone (Gets boot given floor) tt, subst (λ p. AreGreatestSteps seed setting node p got.0) (sym (may.has boot given floor)) (happened_greatest node new later are.1 devices.1 have.1 got.0 got.2))
+      ] in
+      subst (AreGreatestSteps seed setting node (Closed store)) (sym lost.2)
+      (greatest_steps_append seed setting node (Closed store) first (Loses ∷ lost.1) (first_greatest node store named are.0 devices.0 have.0 first lost.3) (no_start seed at Loses tt, rest))
+
   -- ---- all members
 
-  pub order_greatest : (named : ℕ → List (NamedUse U)) (are : AreAllNamedUses g finds answers setting names named) (items : List Item) → IsOrderOf g finds answers setting names named are items
-      → ((node : ℕ) → HaveDevices g finds answers setting node names seed (first_store setting node) (named node) (are node)) → StartsAreGreatest seed setting items
-  order_greatest named are items is devices = λ node member.
-      let f = is.steps node member in
-      let all = named_greatest_steps node (first_store setting node) (named node) (are node) (devices node) (is.has.steps node) (is.has.are_of node) in
-      first_greatest_steps seed setting node (Closed (first_store setting node)) (steps_at node items) f.later
-      (subst (AreGreatestSteps seed setting node (Closed (first_store setting node))) f.all_are all)
+  pub order_greatest : (stores : ℕ → NamedStores U) (are : AreAllNamedStores g finds answers setting names stores) (items : List Item) → IsOrderOf g finds answers setting names stores are items
+      → ((node : ℕ) → HaveDevicesInStores g finds answers setting node names seed (first_store setting node) (stores node) (are node)) → StartsAreGreatest seed setting items
+  order_greatest stores are items is devices = λ node member.
+      happened_greatest node (first_store setting node) (stores node) (are node) (devices node) (is.has.steps node) (steps_at node items) (is.steps node member)

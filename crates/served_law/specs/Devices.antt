@@ -3,10 +3,10 @@ use Rattle.std.specs.Prelude.{◌≡◌, ℕ, Bool, List, [], ◌∷◌, Some, s
 use Rattle.sqlite.specs.Store.{Ghosts}
 use Rattle.sqlite.specs.Held as sql
 use Rattle.roster_sql.specs.declared.entry.Entry.{Entry}
-use Rattle.book_law.specs.Lives.{Setting, Store}
+use Rattle.book_law.specs.Lives.{Setting, Store, store_with_rows}
 use Rattle.book_law.specs.Seeds.{HaveSeedsOnce}
 use Rattle.book_law.specs.Uses.{written_store}
-use Rattle.served_law.specs.Runs.{AreNamedUses, NamedUse, RunsBy, WritesBy, store_left, terms_in}
+use Rattle.served_law.specs.Runs.{AreNamedStores, AreNamedUses, Keeps, NamedStores, NamedUse, Replaces, RunsBy, WritesBy, store_left, terms_in}
 use Rattle.served_law.specs.Seated.{token_of}
 
 -- rows whose tokens are of one device have one seed
@@ -25,3 +25,10 @@ module _ {S U : Type 0} (g : Ghosts S) (finds : sql.Held S → Type 0) (answers 
       HaveOneSeed seed names run.rows × HaveSeedsOnce seed (terms_in are.0.served names).seats
       × HaveDevices (store_left g finds answers setting node names store run are.0) later are.1
   HaveDevices store (WritesBy action ∷ later) are = HaveDevices (written_store setting action store) later are.1
+
+  -- the same of each of the stores
+  abbrev pub HaveDevicesInStores : (store : Store) (stores : NamedStores U)
+      → AreNamedStores g finds answers setting node names store stores → Type 0
+  HaveDevicesInStores store (Keeps named) are = HaveDevices store named are
+  HaveDevicesInStores store (Replaces named boot given floor later) are =
+      HaveDevices store named are.0 × HaveDevicesInStores (store_with_rows boot given floor) later are.1

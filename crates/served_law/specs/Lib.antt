@@ -5,4 +5,5 @@ pub mod Processes
 pub mod Runs
 pub mod Examples
 pub mod RunExamples
+pub mod LoneRun
 pub mod Devices

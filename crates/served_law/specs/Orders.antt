@@ -21,16 +21,16 @@ use Rattle.oathd_database.specs.declared.fault.Fault.{Fault}
 use Rattle.node_serving.specs.declared.serving.Serving.{Serving}
 use Rattle.named_serving.specs.Served.{HasServedNamed}
 use Rattle.oathd_roster.specs.declared.cluster.NamedCluster.{NamedCluster}
-use Rattle.book_law.specs.Lives.{Enrols, Raises, Sealed, Setting, Store, Terms, made_boot}
+use Rattle.book_law.specs.Lives.{Enrols, Raises, Sealed, Setting, Store, Terms, made_boot, store_with_rows}
 use Rattle.book_law.specs.Stretches.{Stretch as StretchOf, token_cleared, tokens_cleared}
 use Rattle.book_law.specs.Uses.{first_store, written_store}
-use Rattle.order_law.specs.Interleavings.{AreOfMembers, IsInterleaving, Item, first_place, said_before, steps_at}
+use Rattle.order_law.specs.Interleavings.{AreOfMembers, AreReplaced, IsInterleaving, Item, first_place, said_before, steps_at}
 use Rattle.named_order_law.specs.Bytes.{AreUnforgedItems}
 use Rattle.vote_core.specs.Books.{blank_opening}
 use Rattle.vote_core.specs.Safety.{MayOpen}
-use Rattle.order_law.specs.Steps.{AreOfProcess, AreSteps, Closed, Does, Ends, HasSteps, Starts, Step, entries_of_steps, place_in_end}
+use Rattle.order_law.specs.Steps.{AreOfProcess, AreSteps, Closed, Does, Ends, Gets, HasSteps, Loses, Starts, Step, entries_of_steps, place_in_end}
 use Rattle.served_law.specs.Processes.{RunsIn, number_unlocked, stretches_of}
-use Rattle.served_law.specs.Runs.{AreAllNamedUses, AreNamedUses, IsRunOver, NamedRun, NamedUse, RunsBy, WritesBy, entries_of, store_found, store_left, terms_in, view_of}
+use Rattle.served_law.specs.Runs.{AreAllNamedStores, AreNamedStores, AreNamedUses, IsRunOver, Keeps, NamedRun, NamedStores, NamedUse, Replaces, RunsBy, WritesBy, entries_of, store_found, store_left, terms_in, view_of}
 use Rattle.served_law.specs.Seated.{token_of}
 
 -- ---- One run
@@ -128,7 +128,7 @@ module _ {S U : Type 0} (g : Ghosts S) (finds : sql.Held S → Type 0) (answers 
     pub are_of : AreStepsOf store named are steps
     pub are_steps : AreSteps setting node (Closed store) steps
 
--- ---- All members
+-- ---- All stores of a member
 
 -- the steps are the first of all of them
 pub record AreFirstOf (steps all : List Step) : Type 0 where
@@ -136,25 +136,52 @@ pub record AreFirstOf (steps all : List Step) : Type 0 where
   pub all_are : all ≡ steps ++ later
 
 module _ {S U : Type 0} (g : Ghosts S) (finds : sql.Held S → Type 0) (answers : U → ℕ → Bool → Bool → Type 0)
-    (setting : Setting) (names : List (List ℕ)) where
-  -- The steps of all members. At any moment some of them have happened, of each member the first ones. Each order of
-  -- these that keeps each member's own is an interleaving.
-  pub record HasNamedSteps (named : ℕ → List (NamedUse U)) (are : AreAllNamedUses g finds answers setting names named)
-      : Type 0 where
-    pub steps : ℕ → List Step
-    pub are_of : (node : ℕ)
-        → AreStepsOf g finds answers setting node names (first_store setting node) (named node) (are node) (steps node)
-    pub interleavings : (items : List Item) → AreOfMembers setting items
-        → ((node : ℕ) → is_member setting.n node ≡ true → AreFirstOf (steps_at node items) (steps node))
-        → IsInterleaving setting items
+    (setting : Setting) (node : ℕ) (names : List (List ℕ)) where
+  -- the steps of the uses of each store
+  abbrev pub HaveStepsOf : (store : Store) (stores : NamedStores U)
+      → AreNamedStores g finds answers setting node names store stores → Type 0
+  HaveStepsOf store (Keeps named) are = HasStepsOf g finds answers setting node names store named are
+  HaveStepsOf store (Replaces named boot given floor later) are =
+      HasStepsOf g finds answers setting node names store named are.0
+      × HaveStepsOf (store_with_rows boot given floor) later are.1
 
-  -- The items are an order of the members' steps up to some moment. No datagram of a vote is forged in it, byte for
-  -- byte, and envelopes of former times fit.
-  pub record IsOrderOf (named : ℕ → List (NamedUse U)) (are : AreAllNamedUses g finds answers setting names named)
+  -- The stores have made these steps up to some moment. A store that is replaced was lost at any moment of its uses.
+  abbrev pub HaveHappened : (store : Store) (stores : NamedStores U)
+      (are : AreNamedStores g finds answers setting node names store stores) → HaveStepsOf store stores are
+      → List Step → Type 0
+  HaveHappened store (Keeps named) are have steps = AreFirstOf steps have.steps
+  HaveHappened store (Replaces named boot given floor later) are have steps =
+      AreFirstOf steps have.0.steps
+      ⊎ ((first : List Step) × (rest : List Step) × (steps ≡ first ++ Loses ∷ rest) × AreFirstOf first have.0.steps
+      × ((rest ≡ []) ⊎ ((others : List Step) × (rest ≡ Gets boot given floor ∷ others)
+      × HaveHappened (store_with_rows boot given floor) later are.1 have.1 others)))
+
+-- ---- All members
+
+module _ {S U : Type 0} (g : Ghosts S) (finds : sql.Held S → Type 0) (answers : U → ℕ → Bool → Bool → Type 0)
+    (setting : Setting) (names : List (List ℕ)) where
+  -- The steps of all members. At any moment some of them have happened. Each order of these that keeps each member's
+  -- own is an interleaving. The rule of the votes has to allow each replacement of a store in it.
+  pub record HasNamedSteps (stores : ℕ → NamedStores U)
+      (are : AreAllNamedStores g finds answers setting names stores) : Type 0 where
+    pub steps : (node : ℕ)
+        → HaveStepsOf g finds answers setting node names (first_store setting node) (stores node) (are node)
+    pub interleavings : (items : List Item) → AreOfMembers setting items
+        → ((node : ℕ) → is_member setting.n node ≡ true
+        → HaveHappened g finds answers setting node names (first_store setting node) (stores node) (are node)
+        (steps node) (steps_at node items))
+        → AreReplaced setting items → IsInterleaving setting items
+
+  -- The items are an order of the members' steps up to some moment. A lost store is replaced if the rule of the votes
+  -- allows it. No datagram of a vote is forged, byte for byte, and envelopes of former times fit.
+  pub record IsOrderOf (stores : ℕ → NamedStores U) (are : AreAllNamedStores g finds answers setting names stores)
       (items : List Item) : Type 0 where
-    pub has : HasNamedSteps named are
+    pub has : HasNamedSteps stores are
     pub members : AreOfMembers setting items
-    pub steps : (node : ℕ) → is_member setting.n node ≡ true → AreFirstOf (steps_at node items) (has.steps node)
+    pub steps : (node : ℕ) → is_member setting.n node ≡ true
+        → HaveHappened g finds answers setting node names (first_store setting node) (stores node) (are node)
+        (has.steps node) (steps_at node items)
+    pub replaced : AreReplaced setting items
     pub starts : MayOpen setting.n setting.tokens
         (blank_opening (made_boot setting) (map (λ (sealed : Sealed). sealed.envelope) setting.old))
     pub unforged : AreUnforgedItems names setting (first_place setting) (said_before setting) items

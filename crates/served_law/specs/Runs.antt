@@ -20,7 +20,7 @@ use Rattle.oathd_database.specs.declared.fault.Fault.{Fault}
 use Rattle.node_serving.specs.declared.serving.Serving.{Serving}
 use Rattle.named_serving.specs.Served.{HasServedNamed}
 use Rattle.oathd_roster.specs.declared.cluster.NamedCluster.{NamedCluster}
-use Rattle.book_law.specs.Lives.{Action, Setting, Store, Terms, store_under}
+use Rattle.book_law.specs.Lives.{Action, Setting, Store, Terms, store_under, store_with_rows}
 use Rattle.book_law.specs.Uses.{AreUses, IsWriting, Part, ServesInParts, StoreUse, Writes, entries_in, first_store, store_after, written_store}
 use Rattle.name_law.specs.Ports.{first_translator}
 use Rattle.served_law.specs.Enrolled.{opening_uses}
@@ -88,6 +88,15 @@ pub data NamedUse (U : Type 0) : Type 0 where
   RunsBy : (run : NamedRun U) → NamedUse U
   WritesBy : (action : Action) → NamedUse U
 
+-- The stores of a member, in order, each with its uses.
+--   Keeps: the member has had no other store since.
+--   Replaces: the member lost the store, after some of its uses or inside one. The next one had the boot, and rows for
+-- the given tokens with floors by token.
+pub data NamedStores (U : Type 0) : Type 0 where
+  Keeps : (named : List (NamedUse U)) → NamedStores U
+  Replaces : (named : List (NamedUse U)) (boot : ℕ) (given : List ℕ) (floor : ℕ → ℕ) (later : NamedStores U)
+      → NamedStores U
+
 -- The tables of a connection hold the store of a history, whatever content and rows these are.
 abbrev pub HoldsStore :
     {S : Type 0} → Ghosts S → BondRecord → List (List ℕ) → sql.Held S → Store → Type 0
@@ -117,6 +126,12 @@ module _ {S U : Type 0} (g : Ghosts S) (finds : sql.Held S → Type 0) (answers 
       (is : IsRunOver store run) × AreNamedUses (store_left store run is) later
   AreNamedUses store (WritesBy action ∷ later) =
       IsWriting node action × AreNamedUses (written_store setting action store) later
+
+  -- the uses of each store, the first of which is the given one
+  abbrev pub AreNamedStores : Store → NamedStores U → Type 0
+  AreNamedStores store (Keeps named) = AreNamedUses store named
+  AreNamedStores store (Replaces named boot given floor later) =
+      AreNamedUses store named × AreNamedStores (store_with_rows boot given floor) later
 
   -- The uses of a history are the run: raises of the rows `former`, enrolments of new rows, and its process in parts.
   -- The process finds what the run found. Its port recorded what the run received and offered.
@@ -153,7 +168,7 @@ module _ {S U : Type 0} (g : Ghosts S) (finds : sql.Held S → Type 0) (answers 
 
 module _ {S U : Type 0} (g : Ghosts S) (finds : sql.Held S → Type 0) (answers : U → ℕ → Bool → Bool → Type 0)
     (setting : Setting) (names : List (List ℕ)) where
-  -- each node has such uses of its first store
-  abbrev pub AreAllNamedUses : (ℕ → List (NamedUse U)) → Type 0
-  AreAllNamedUses named = (node : ℕ)
-      → AreNamedUses g finds answers setting node names (first_store setting node) (named node)
+  -- each node has such uses of its stores, from its first one on
+  abbrev pub AreAllNamedStores : (ℕ → NamedStores U) → Type 0
+  AreAllNamedStores stores = (node : ℕ)
+      → AreNamedStores g finds answers setting node names (first_store setting node) (stores node)

@@ -1,6 +1,6 @@
 //! The laws about stores that are opened by names, and about nodes that are served over them.
 
-ghost use Rattle.std.specs.Prelude.{◌≡◌, ℕ, List, Option, Some, Result, length, slice_get};
+ghost use Rattle.std.specs.Prelude.{◌≡◌, ℕ, true, List, Option, Some, Result, length, slice_get};
 ghost use Rattle.sqlite.specs.Held.{state};
 ghost use Rattle.sqlite.specs.State.{HasCleanDisk};
 ghost use Rattle.otp_core.specs.Limits.{Limits};
@@ -15,7 +15,7 @@ ghost use Rattle.named_port.specs.Translator.{new_translator};
 ghost use Rattle.named_store.specs.declared.opening.RowCounts.{RowCounts};
 ghost use Rattle.oath_node.specs.Machine.{Peer};
 ghost use Rattle.oath_node.specs.declared.turns.Served.{Served};
-ghost use Rattle.vote_core.specs.Schedule.{Envelope};
+ghost use Rattle.vote_core.specs.Schedule.{Envelope, is_member};
 ghost use Rattle.vote_wire.specs.Key.{bare};
 ghost use Rattle.node_serving.specs.NodeKey.{tag_key};
 ghost use Rattle.node_serving.specs.Stretches.{unasked};
@@ -28,7 +28,7 @@ ghost use Rattle.book_law.specs.Lives.{Setting, Store, Terms, accepted_in, floor
 ghost use Rattle.book_law.specs.Seeds.{AreGreatest, HaveSeedsOnce, UsesGreatest};
 ghost use Rattle.book_law.specs.Uses.{IsSeatedMember, IsTrueReply, Part, StoreUse, first_store};
 ghost use Rattle.name_law.specs.Ports.{ReadsEvent, first_translator};
-ghost use Rattle.served_law.specs.Devices.{HaveDevices, HaveOneSeed};
+ghost use Rattle.served_law.specs.Devices.{HaveDevices, HaveDevicesInStores, HaveOneSeed};
 ghost use Rattle.served_law.specs.Enrolled.{IsEnrolledFrom};
 ghost use Rattle.admit_core.specs.Throttle.{SpacesFailures};
 ghost use Rattle.cluster_sim.specs.Answered.{IsOk};
@@ -38,10 +38,10 @@ ghost use Rattle.vote_core.specs.Safety.{HaveMajority};
 ghost use Rattle.book_law.specs.Justified.{JustifiesAll};
 ghost use Rattle.book_law.specs.Results.{results_in};
 ghost use Rattle.name_law.specs.Unforged.{IsSized};
-ghost use Rattle.order_law.specs.Interleavings.{Item, history_of};
+ghost use Rattle.order_law.specs.Interleavings.{AreOfMembers, AreReplaced, Item, history_of, steps_at};
 ghost use Rattle.order_law.specs.Steps.{Replies, Says};
-ghost use Rattle.served_law.specs.Orders.{HasNamedSteps, HasStepsOf, IsOrderOf, IsRunInOrder};
-ghost use Rattle.served_law.specs.Runs.{AreAllNamedUses, AreNamedUses, AreOf, HasUsesOf, IsOneUse, IsSound, NamedUse, terms_in, view_of};
+ghost use Rattle.served_law.specs.Orders.{AreFirstOf, HasNamedSteps, HasStepsOf, IsOrderOf, IsRunInOrder};
+ghost use Rattle.served_law.specs.Runs.{AreAllNamedStores, AreNamedUses, AreOf, HasUsesOf, IsOneUse, IsSound, Keeps, NamedStores, NamedUse, terms_in, view_of};
 ghost use Rattle.served_law.specs.Seated.{HasKnownRows, HasRows, IsSeatedStore, served_terms, store_by_names, tokens_of};
 
 use name_law::named_ports_tell_envelopes;
@@ -202,40 +202,49 @@ pub fn served_names_have_steps<S: Alter + Drop, D: Database<S>, U: Stop>()
         (are : AreNamedUses S.Store D.finds U.answers setting node names store named)
         → setting.tokens ≡ length names
         → HasStepsOf S.Store D.finds U.answers setting node names store named are }
-    ensures members { (setting : Setting) (names : List (List ℕ)) (named : ℕ → List (NamedUse U))
-        (are : AreAllNamedUses S.Store D.finds U.answers setting names named) → setting.tokens ≡ length names
-        → HasNamedSteps S.Store D.finds U.answers setting names named are }
+    // A store that was lost has its steps up to the loss, and the next one its own.
+    ensures members { (setting : Setting) (names : List (List ℕ)) (stores : ℕ → NamedStores U)
+        (are : AreAllNamedStores S.Store D.finds U.answers setting names stores) → setting.tokens ≡ length names
+        → HasNamedSteps S.Store D.finds U.answers setting names stores are }
+    // If all members kept their first stores, no rule of replacements is asked for.
+    ensures kept { (setting : Setting) (names : List (List ℕ)) (named : ℕ → List (NamedUse U))
+        (are : AreAllNamedStores S.Store D.finds U.answers setting names (λ node. Keeps (named node)))
+        (has : HasNamedSteps S.Store D.finds U.answers setting names (λ node. Keeps (named node)) are)
+        (items : List Item) → AreOfMembers setting items
+        → ((node : ℕ) → is_member setting.n node ≡ true → AreFirstOf (steps_at node items) (has.steps node).steps)
+        → AreReplaced setting items }
 {}
 
 /// Safety of runs: in each order of all members' runs by names, acceptances and answers keep all promises.
 ///
-/// A vote that is heard was said before in the order, byte for byte: nobody has the key, and time goes forward.
+/// A vote that is heard was said before in the order, byte for byte: nobody has the key, and time goes forward. A lost
+/// store is replaced if the rule of the votes allows it, and the next run finds the replacement as it was made.
 pub fn served_names_are_safe<S: Alter + Drop, D: Database<S>, U: Stop>()
-    ensures single_use { (setting : Setting) (names : List (List ℕ)) (named : ℕ → List (NamedUse U))
-        (are : AreAllNamedUses S.Store D.finds U.answers setting names named) (items : List Item)
-        → IsSized names setting → IsOrderOf S.Store D.finds U.answers setting names named are items
+    ensures single_use { (setting : Setting) (names : List (List ℕ)) (stores : ℕ → NamedStores U)
+        (are : AreAllNamedStores S.Store D.finds U.answers setting names stores) (items : List Item)
+        → IsSized names setting → IsOrderOf S.Store D.finds U.answers setting names stores are items
         → HaveSingleUse (accepted_in setting (history_of items)) }
-    ensures in_order { (setting : Setting) (names : List (List ℕ)) (named : ℕ → List (NamedUse U))
-        (are : AreAllNamedUses S.Store D.finds U.answers setting names named) (items : List Item)
-        → IsSized names setting → IsOrderOf S.Store D.finds U.answers setting names named are items
+    ensures in_order { (setting : Setting) (names : List (List ℕ)) (stores : ℕ → NamedStores U)
+        (are : AreAllNamedStores S.Store D.finds U.answers setting names stores) (items : List Item)
+        → IsSized names setting → IsOrderOf S.Store D.finds U.answers setting names stores are items
         → KeepRealTimeOrder (accepted_in setting (history_of items)) }
-    ensures majority { (setting : Setting) (names : List (List ℕ)) (named : ℕ → List (NamedUse U))
-        (are : AreAllNamedUses S.Store D.finds U.answers setting names named) (items : List Item)
-        → IsSized names setting → IsOrderOf S.Store D.finds U.answers setting names named are items
+    ensures majority { (setting : Setting) (names : List (List ℕ)) (stores : ℕ → NamedStores U)
+        (are : AreAllNamedStores S.Store D.finds U.answers setting names stores) (items : List Item)
+        → IsSized names setting → IsOrderOf S.Store D.finds U.answers setting names stores are items
         → HaveMajority setting.n (floor_in setting (history_of items)) (accepted_in setting (history_of items)) }
-    ensures justified { (setting : Setting) (names : List (List ℕ)) (named : ℕ → List (NamedUse U))
-        (are : AreAllNamedUses S.Store D.finds U.answers setting names named) (items : List Item)
-        → IsSized names setting → IsOrderOf S.Store D.finds U.answers setting names named are items
+    ensures justified { (setting : Setting) (names : List (List ℕ)) (stores : ℕ → NamedStores U)
+        (are : AreAllNamedStores S.Store D.finds U.answers setting names stores) (items : List Item)
+        → IsSized names setting → IsOrderOf S.Store D.finds U.answers setting names stores are items
         → JustifiesAll setting (history_of items) (accepted_in setting (history_of items)) }
-    ensures spaced { (setting : Setting) (names : List (List ℕ)) (named : ℕ → List (NamedUse U))
-        (are : AreAllNamedUses S.Store D.finds U.answers setting names named) (items : List Item) (node token : ℕ)
-        → IsSized names setting → IsOrderOf S.Store D.finds U.answers setting names named are items
+    ensures spaced { (setting : Setting) (names : List (List ℕ)) (stores : ℕ → NamedStores U)
+        (are : AreAllNamedStores S.Store D.finds U.answers setting names stores) (items : List Item) (node token : ℕ)
+        → IsSized names setting → IsOrderOf S.Store D.finds U.answers setting names stores are items
         → SpacesFailures (results_in setting (history_of items) node token) }
     // Each reply that a member's port recorded, and that begins as an `OK`, belongs to an acceptance.
-    ensures replied { (setting : Setting) (names : List (List ℕ)) (named : ℕ → List (NamedUse U))
-        (are : AreAllNamedUses S.Store D.finds U.answers setting names named) (items : List Item) (i node client : ℕ)
-        (bytes : List ℕ)
-        → IsSized names setting → IsOrderOf S.Store D.finds U.answers setting names named are items
+    ensures replied { (setting : Setting) (names : List (List ℕ)) (stores : ℕ → NamedStores U)
+        (are : AreAllNamedStores S.Store D.finds U.answers setting names stores) (items : List Item)
+        (i node client : ℕ) (bytes : List ℕ)
+        → IsSized names setting → IsOrderOf S.Store D.finds U.answers setting names stores are items
         → slice_get items i ≡ Some (record { node = node; step = Says (Replies client bytes) }) → IsOk bytes
         → IsTrueReply setting (history_of items) node client bytes }
 {
@@ -245,24 +254,26 @@ pub fn served_names_are_safe<S: Alter + Drop, D: Database<S>, U: Stop>()
 /// Single use by device: in each order of all members' runs by names, no factor of a device is accepted twice, whatever
 /// its names are.
 ///
-/// `seed` gives the device of each name. A vote that is heard was said before in the order, byte for byte. No users
-/// file of a run has a device twice, and in the store that a run found rows of one device have one seed.
+/// `seed` gives the device of each name. Votes and lost stores are as in `served_names_are_safe`. No users file of a
+/// run has a device twice, and in the store that a run found rows of one device have one seed.
 pub fn served_devices_are_safe<S: Alter + Drop, D: Database<S>, U: Stop>()
-    ensures single_use { (seed : ℕ → ℕ) (setting : Setting) (names : List (List ℕ)) (named : ℕ → List (NamedUse U))
-        (are : AreAllNamedUses S.Store D.finds U.answers setting names named) (items : List Item)
-        → IsSized names setting → IsOrderOf S.Store D.finds U.answers setting names named are items
-        → ((node : ℕ) → HaveDevices S.Store D.finds U.answers setting node names seed (first_store setting node)
-        (named node) (are node)) → HaveSingleUseOfSeeds seed (accepted_in setting (history_of items)) }
-    ensures in_order { (seed : ℕ → ℕ) (setting : Setting) (names : List (List ℕ)) (named : ℕ → List (NamedUse U))
-        (are : AreAllNamedUses S.Store D.finds U.answers setting names named) (items : List Item)
-        → IsSized names setting → IsOrderOf S.Store D.finds U.answers setting names named are items
-        → ((node : ℕ) → HaveDevices S.Store D.finds U.answers setting node names seed (first_store setting node)
-        (named node) (are node)) → KeepOrderOfSeeds seed (accepted_in setting (history_of items)) }
-    ensures majority { (seed : ℕ → ℕ) (setting : Setting) (names : List (List ℕ)) (named : ℕ → List (NamedUse U))
-        (are : AreAllNamedUses S.Store D.finds U.answers setting names named) (items : List Item)
-        → IsSized names setting → IsOrderOf S.Store D.finds U.answers setting names named are items
-        → ((node : ℕ) → HaveDevices S.Store D.finds U.answers setting node names seed (first_store setting node)
-        (named node) (are node))
+    ensures single_use { (seed : ℕ → ℕ) (setting : Setting) (names : List (List ℕ)) (stores : ℕ → NamedStores U)
+        (are : AreAllNamedStores S.Store D.finds U.answers setting names stores) (items : List Item)
+        → IsSized names setting → IsOrderOf S.Store D.finds U.answers setting names stores are items
+        → ((node : ℕ) → HaveDevicesInStores S.Store D.finds U.answers setting node names seed
+        (first_store setting node) (stores node) (are node))
+        → HaveSingleUseOfSeeds seed (accepted_in setting (history_of items)) }
+    ensures in_order { (seed : ℕ → ℕ) (setting : Setting) (names : List (List ℕ)) (stores : ℕ → NamedStores U)
+        (are : AreAllNamedStores S.Store D.finds U.answers setting names stores) (items : List Item)
+        → IsSized names setting → IsOrderOf S.Store D.finds U.answers setting names stores are items
+        → ((node : ℕ) → HaveDevicesInStores S.Store D.finds U.answers setting node names seed
+        (first_store setting node) (stores node) (are node))
+        → KeepOrderOfSeeds seed (accepted_in setting (history_of items)) }
+    ensures majority { (seed : ℕ → ℕ) (setting : Setting) (names : List (List ℕ)) (stores : ℕ → NamedStores U)
+        (are : AreAllNamedStores S.Store D.finds U.answers setting names stores) (items : List Item)
+        → IsSized names setting → IsOrderOf S.Store D.finds U.answers setting names stores are items
+        → ((node : ℕ) → HaveDevicesInStores S.Store D.finds U.answers setting node names seed
+        (first_store setting node) (stores node) (are node))
         → AreGivenUp setting.n (floor_in setting (history_of items)) seed (accepted_in setting (history_of items)) }
 {
     unforged_interleavings_keep_devices();

@@ -5,20 +5,26 @@
 //! a node that is served over it is a member of that history. `book_law` and `name_law` have the histories.
 #![tactic(auto)]
 
+mod instance;
 mod laws;
 mod order_laws;
 mod run_laws;
+mod store_laws;
 mod worked;
 
+pub use instance::lone_runs_are_worked;
 pub use laws::{
     named_translators_are_first, opened_names_are_enrolled, opened_names_are_seated,
     opened_names_have_rows, served_devices_are_safe, served_names_are_processes,
     served_names_are_safe, served_names_are_seated, served_names_are_uses, served_names_have_steps,
     served_names_open_greatest,
 };
-pub use order_laws::{orders_of_runs_can_be_broken, runs_in_order_can_be_broken};
+pub use order_laws::{
+    clearings_can_be_broken, orders_of_runs_can_be_broken, runs_in_order_can_be_broken,
+};
 pub use run_laws::{
     commands_can_be_broken, devices_can_be_broken, named_uses_can_be_broken, runs_can_be_broken,
     stretches_are_numbered,
 };
+pub use store_laws::{orders_can_be_broken, stores_can_be_broken};
 pub use worked::{enrolments_are_worked, openings_are_worked, rows_are_worked, rows_can_be_broken};

@@ -11,46 +11,34 @@ use Rattle.vote_wire.specs.Datagram.{datagram_bytes}
 use Rattle.vote_wire.specs.Key.{bare}
 use Rattle.named_port.specs.Translator.{TranslatorRecord, new_translator}
 use Rattle.oath_node.specs.Machine.{made_by_proposal, made_by_ruling, made_by_datagram, made_while_running, made_by_event}
-use Rattle.book_law.specs.Examples.{first_key, maple_first, silver_first, three}
+use Rattle.book_law.specs.Examples.{first_key, maple_first, three}
 use Rattle.book_law.specs.Lives.{AreGenuine, IsHistory, Output, Sealed, Terms, ToClient, ToPeer, WasOffered, state_after, state_after_action}
 use Rattle.name_law.specs.Datagrams.{IsReadable, IsTranslatorOf, named_datagram, own_names}
 use Rattle.name_law.specs.Examples.{silver_ask, user_names}
 use Rattle.name_law.specs.Unforged.{IsSized}
 use Rattle.name_law.proofs.Datagrams.{handed_is}
 use Rattle.name_law.proofs.Examples.{are_user_names, silver_spelled}
-use Rattle.order_law.specs.Examples.{ask_to, forged, grant_of, silver_login, taken_early}
+use Rattle.order_law.specs.Examples.{ask_to, forged, silver_login, taken_early}
 use Rattle.order_law.specs.Interleavings.{Said, WasSaid, first_place, history_of, said_before}
 use Rattle.order_law.specs.Steps.{Live}
-use Rattle.order_law.proofs.Examples.{grant_spelled}
 use Rattle.named_order_law.specs.Bytes.{AreUnforgedItems, HearsUnforged}
 use Rattle.order_law.proofs.Login.{login}
+use Rattle.named_order_law.specs.Examples.{grant_under}
+use Rattle.named_order_law.proofs.Heard.{hears_grant}
 use Rattle.named_order_law.proofs.worked.named_interleavings_are_worked.Goals as goal
 
 no_old : (i : ℕ) (envelope : Envelope) → slice_get [] i ≡ Some envelope → ⊥
 no_old i envelope at = none-some envelope at
 
--- node 2's Grant under the canonical token
-abbrev silver_grant : Sealed
-silver_grant = record { key = first_key; envelope = grant_of 0 }
-
--- the translators of both nodes in their boot 1
-abbrev translator_1 : TranslatorRecord
-translator_1 = new_translator first_key (own_names user_names (0 ∷ 1 ∷ [])) 1 1 (replicate 10 0)
-
+-- the translator of node 2 in its boot 1
 abbrev translator_2 : TranslatorRecord
 translator_2 = new_translator first_key (own_names user_names (1 ∷ 0 ∷ [])) 2 1 (replicate 10 0)
-
-is_of_1 : IsTranslatorOf user_names 1 silver_first translator_1
-is_of_1 = record { key = refl; names_are = refl; me = refl }
 
 is_of_2 : IsTranslatorOf user_names 2 maple_first translator_2
 is_of_2 = record { key = refl; names_are = refl; me = refl }
 
 can_ask : IsReadable user_names maple_first 1 silver_ask
 can_ask = record { are_names = are_user_names; seats = refl; key = refl; token = omega arith; spelled = silver_spelled; boot_below = omega arith }
-
-can_grant : IsReadable user_names silver_first 1 silver_grant
-can_grant = record { are_names = are_user_names; seats = refl; key = refl; token = omega arith; spelled = grant_spelled; boot_below = omega arith }
 
 hears_ask : (s : Live) (said : List Said) → s.port ≡ bare → s.terms ≡ maple_first → WasSaid said silver_ask → HearsUnforged user_names 2 s said 1 (datagram_bytes bare 1 2 (ask_to 2 1).message)
 hears_ask s said port terms was = record {
@@ -60,16 +48,6 @@ hears_ask s said port terms was = record {
   bytes = named_datagram user_names 1 silver_ask;
   handed_is = sym (handed_is user_names 2 maple_first translator_2 1 1 silver_ask is_of_2 can_ask);
   unforged = λ envelope is vote. record { sealed = silver_ask; was = was; key_is = ap (λ (t : Terms). t.key) (sym terms); boot = 1; boot_below = omega arith; bytes_are = refl };
-}
-
-hears_grant : (s : Live) (said : List Said) → s.port ≡ bare → s.terms ≡ silver_first → WasSaid said silver_grant → HearsUnforged user_names 1 s said 2 (datagram_bytes bare 2 1 (grant_of 0).message)
-hears_grant s said port terms was = record {
-  port_is = port;
-  translator = translator_1;
-  is_of = subst (λ t. IsTranslatorOf user_names 1 t translator_1) (sym terms) is_of_1;
-  bytes = named_datagram user_names 1 silver_grant;
-  handed_is = sym (handed_is user_names 1 silver_first translator_1 1 2 silver_grant is_of_1 can_grant);
-  unforged = λ envelope is vote. record { sealed = silver_grant; was = was; key_is = ap (λ (t : Terms). t.key) (sym terms); boot = 1; boot_below = omega arith; bytes_are = refl };
 }
 
 unforged : AreUnforgedItems user_names three (first_place three) (said_before three) silver_login
@@ -98,11 +76,11 @@ never one other sealed first second was = there was.place was.is_there
 
 early_is_none : IsHistory three (history_of taken_early) → ⊥
 unfolding code_at first_words schedule rounds compress hash_after digest_bytes sha1 AreGenuine state_after state_after_action made_by_event made_while_running made_by_datagram made_by_ruling made_by_proposal propose propose_alone propose_among on_ask accept count_grant on_grant raise count_deny on_deny on_floor on_message tick
-early_is_none h = never _ _ silver_grant (λ (e : 1 ≡ 2). omega (arith, e)) (λ (e : 1 ≡ 2). omega (arith, e)) (h.genuine.1.1.1.1.1.1.1.1.1.1.0 refl tt (omega arith))
+early_is_none h = never _ _ (grant_under first_key) (λ (e : 1 ≡ 2). omega (arith, e)) (λ (e : 1 ≡ 2). omega (arith, e)) (h.genuine.1.1.1.1.1.1.1.1.1.1.0 refl tt (omega arith))
 
 forged_is_none : IsHistory three (history_of forged) → ⊥
 unfolding code_at first_words schedule rounds compress hash_after digest_bytes sha1 AreGenuine state_after state_after_action made_by_event made_while_running made_by_datagram made_by_ruling made_by_proposal propose propose_alone propose_among on_ask accept count_grant on_grant raise count_deny on_deny on_floor on_message tick
-forged_is_none h = never _ _ silver_grant (λ (e : 1 ≡ 2). omega (arith, e)) (λ (e : 1 ≡ 2). omega (arith, e)) (h.genuine.1.1.1.1.1.1.1.1.1.0 refl tt (omega arith))
+forged_is_none h = never _ _ (grant_under first_key) (λ (e : 1 ≡ 2). omega (arith, e)) (λ (e : 1 ≡ 2). omega (arith, e)) (h.genuine.1.1.1.1.1.1.1.1.1.0 refl tt (omega arith))
 
 pub returns-clause-early : goal.returns-clause-early
 returns-clause-early c h = early_is_none (c.unforged_names_are_genuine.ensures user_names three _ sized (c.unforged_interleavings_are_genuine.ensures user_names three taken_early h))

@@ -11,9 +11,9 @@ use Rattle.vote_core.specs.Schedule.{Envelope}
 use Rattle.vote_core.specs.Voting.{propose, propose_alone, propose_among, on_ask, accept, count_grant, on_grant, raise, count_deny, on_deny, on_floor, on_message, tick}
 use Rattle.oath_node.specs.Machine.{made_by_proposal, made_by_ruling, made_by_datagram, made_while_running, made_by_event, Peer}
 use Rattle.book_law.specs.Examples.{alone, silver_line, three}
-use Rattle.book_law.specs.Lives.{Enrols, Sealed, made_boot, state_after, state_after_action}
+use Rattle.book_law.specs.Lives.{state_after, state_after_action}
 use Rattle.order_law.specs.Examples.{accepted_twice, ask_to, at, forged, grant_of, granted_early, other_ask, silver_login}
-use Rattle.order_law.specs.Interleavings.{AreCaused, AreOfMembers, IsCausal, IsInterleaving, first_place, said_before, steps_at}
+use Rattle.order_law.specs.Interleavings.{first_place, steps_at}
 use Rattle.datagram_port.specs.Port.{Offered, PortEvent}
 use Rattle.datagram_port.specs.declared.port.Sender.{Sender}
 use Rattle.oath_node.specs.Turns.{Receipt, FromPeer, FromClient, Nothing, Failure, entry_of}
@@ -161,3 +161,20 @@ returns-clause-replaced_too_low c h = false≢true (h.replaced (silver_login ++ 
 pub returns-clause-replaced_at_a_used_boot : goal.returns-clause-replaced_at_a_used_boot
 unfolding code_at first_words schedule rounds compress hash_after digest_bytes sha1 state_after state_after_action made_by_event made_while_running made_by_datagram made_by_ruling made_by_proposal propose propose_alone propose_among on_ask accept count_grant on_grant raise count_deny on_deny on_floor on_message tick
 returns-clause-replaced_at_a_used_boot c h = false≢true (h.replaced (silver_login ++ at 1 Loses ∷ []) [] 1 1 (0 ∷ []) (λ token. 1) refl)
+
+-- ---- the rule of replacements
+
+pub returns-clause-rule_of_no_replacement : goal.returns-clause-rule_of_no_replacement
+returns-clause-rule_of_no_replacement c = all_replaced three [] tt
+
+pub returns-clause-rule_of_floors : goal.returns-clause-rule_of_floors
+unfolding code_at first_words schedule rounds compress hash_after digest_bytes sha1 made_by_event made_while_running made_by_datagram made_by_ruling made_by_proposal propose propose_alone propose_among on_ask accept count_grant on_grant raise count_deny on_deny on_floor on_message tick state_after state_after_action
+returns-clause-rule_of_floors c h = false≢true (h (silver_login ++ at 1 Loses ∷ []) [] 1 2 (0 ∷ []) (λ token. 0) refl)
+
+pub returns-clause-rule_of_boots : goal.returns-clause-rule_of_boots
+unfolding code_at first_words schedule rounds compress hash_after digest_bytes sha1 made_by_event made_while_running made_by_datagram made_by_ruling made_by_proposal propose propose_alone propose_among on_ask accept count_grant on_grant raise count_deny on_deny on_floor on_message tick state_after state_after_action
+returns-clause-rule_of_boots c h = false≢true (h (silver_login ++ at 1 Loses ∷ []) [] 1 1 (0 ∷ []) (λ token. 1) refl)
+
+pub returns-clause-rule_of_losses : goal.returns-clause-rule_of_losses
+unfolding state_after
+returns-clause-rule_of_losses c h = false≢true (h [] [] 1 2 (0 ∷ []) (λ token. 1) refl)

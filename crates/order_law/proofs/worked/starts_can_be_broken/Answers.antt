@@ -59,3 +59,9 @@ returns-clause-members c h = let low : 1 ≤ 0 = (h 2 refl).1.1.0.1 0 0 1 refl r
 
 pub returns-clause-no_starts : goal.returns-clause-no_starts
 returns-clause-no_starts c node member = tt
+
+pub returns-clause-once : goal.returns-clause-once
+returns-clause-once c = λ seed terms port store is. is.0
+
+pub returns-clause-each_greatest : goal.returns-clause-each_greatest
+returns-clause-each_greatest c = λ seed terms port store is. is.1

@@ -1,5 +1,5 @@
 -- Each condition is a field, or a list differs.
-use Rattle.std.proofs.Common.{◌≡◌, List, [], ◌∷◌, ◌++◌, length, refl, ap, arith}
+use Rattle.std.proofs.Common.{◌≡◌, List, [], ◌∷◌, ◌++◌, refl}
 use Rattle.book_law.specs.Lives.{Unlocks}
 use Rattle.order_law.specs.Steps.{Does, Loses, Step}
 use Rattle.served_law.proofs.order_laws.orders_of_runs_can_be_broken.Goals as goal
@@ -15,6 +15,9 @@ returns-clause-finds g c = λ setting node names store run is steps are. are.fou
 
 pub returns-clause-leaves : goal.returns-clause-leaves
 returns-clause-leaves g c = λ setting node names store run is steps are. are.after
+
+pub returns-clause-are : goal.returns-clause-are
+returns-clause-are g c = λ setting node names store run is steps are. are.are
 
 not_empty : (first rest : List Step) (one : Step) → [] ≡ first ++ one ∷ rest → ⊥
 not_empty [] rest one e = absurd cc
@@ -41,6 +44,15 @@ returns-clause-one_write g c h =
     let f = h.2.1 in
     absurd cc
 
+pub returns-clause-another_order : goal.returns-clause-another_order
+returns-clause-another_order g c h = let e = h.1 in absurd cc
+
+pub returns-clause-first_run : goal.returns-clause-first_run
+returns-clause-first_run g c = λ setting node names store run later are steps of. (of.2, of.3)
+
+pub returns-clause-after_the_run : goal.returns-clause-after_the_run
+returns-clause-after_the_run g c = λ setting node names store run later are steps of. of.4
+
 pub returns-clause-steps_are_of : goal.returns-clause-steps_are_of
 returns-clause-steps_are_of g c = λ setting node names store named are has. has.are_of
 
@@ -52,18 +64,3 @@ returns-clause-first g c = record { later = Loses ∷ []; all_are = refl }
 
 pub returns-clause-not_first : goal.returns-clause-not_first
 returns-clause-not_first g c h = let e = h.all_are in absurd cc
-
-pub returns-clause-members_steps : goal.returns-clause-members_steps
-returns-clause-members_steps g c = λ setting node names named are has. has.are_of node
-
-pub returns-clause-interleaved : goal.returns-clause-interleaved
-returns-clause-interleaved g c = λ setting names named are items is. is.has.interleavings items is.members is.steps
-
-pub returns-clause-of_members : goal.returns-clause-of_members
-returns-clause-of_members g c = λ setting names named are items is. is.members
-
-pub returns-clause-own_steps : goal.returns-clause-own_steps
-returns-clause-own_steps g c = λ setting node names named are items is member. is.steps node member
-
-pub returns-clause-unforged : goal.returns-clause-unforged
-returns-clause-unforged g c = λ setting names named are items is. is.unforged
