@@ -9,7 +9,7 @@ import time
 from typing import TYPE_CHECKING
 
 if TYPE_CHECKING:
-    from tokens import Token
+    from wakdulg_onboard.tokens import Token
 
 
 class Session:
