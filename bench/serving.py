@@ -16,6 +16,7 @@ import tempfile
 import time
 
 TOP = os.path.dirname(os.path.dirname(os.path.abspath(__file__)))
+sys.path.insert(1, os.path.join(TOP, "tools"))
 import checkout
 from net import free_ports
 from otp import code  # those that import this module take it from here

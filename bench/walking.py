@@ -19,6 +19,7 @@ from concurrent.futures import ThreadPoolExecutor
 from pathlib import Path
 from textwrap import indent
 
+sys.path.insert(1, str(Path(__file__).resolve().parents[1] / "tools"))
 from checkout import TOP
 import wakdulg
 from otp import RFC_KEY, code

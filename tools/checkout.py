@@ -1,6 +1,6 @@
 """Lets a script import the packages of python/ and the modules of tools/lib, as this checkout has them.
 
-Each folder of scripts has a link to this file, so `import checkout` is all that a script needs.
+A script of another folder has the folder tools/ on its path before it imports this.
 """
 import sys
 from pathlib import Path

@@ -13,12 +13,14 @@ words of a command. The line is the same for each node, so that its code is used
 ask.py sends a node the line, and sends it again if no answer comes within a second. It leaves the node after 2.5
 seconds, or at once if the system reports that nobody is there or that no route leads there. After TIMEOUT, BUSY and
 CLOCK, which are about the node, it asks the next one. Any other answer decides. It ignores all that is no answer to
-this line. It asks by the package wakdulg, which is installed or lies beside it.
+this line. It asks by the package wakdulg, which is installed, lies beside it, or is in its checkout.
 """
 import os
 import re
 import sys
 
+FOLDER = os.path.dirname(os.path.realpath(__file__))
+sys.path += [FOLDER, os.path.join(FOLDER, "../../python")]
 sys.dont_write_bytecode = True
 import wakdulg
 

@@ -13,9 +13,11 @@ import sys
 import tempfile
 import threading
 import unittest
+from pathlib import Path
 from types import SimpleNamespace
 
 sys.dont_write_bytecode = True
+sys.path.insert(1, str(Path(__file__).resolve().parents[2] / "tools"))
 import checkout
 import wakdulg
 from tests import test_wakdulg

@@ -1,1 +1,0 @@
-../../tools/checkout.py
