@@ -12,17 +12,16 @@ from pathlib import Path
 from types import SimpleNamespace
 from typing import Any
 
-HERE = Path(__file__).resolve().parent
-TOP = HERE.parent.parent
 sys.dont_write_bytecode = True
-sys.path[:0] = [str(HERE), str(TOP / "python")]
+sys.path.insert(1, str(Path(__file__).resolve().parents[2] / "tools"))
+from checkout import TOP
 import wakdulg
-import web
-from acts import Desk
-from book import Book, User
-from members import ClusterFile, Gate, Row, State
-from record import Record
-from staff import staff_of
+from wakdulg_helpdesk import web
+from wakdulg_helpdesk.acts import Desk
+from wakdulg_helpdesk.book import Book, User
+from wakdulg_helpdesk.members import ClusterFile, Gate, Row, State
+from wakdulg_helpdesk.record import Record
+from wakdulg_helpdesk.staff import staff_of
 from wakdulg_onboard.tokens import read_rows
 
 OATHD = os.environ.get("OATHD", str(TOP / "oathd"))

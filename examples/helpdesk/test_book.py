@@ -16,15 +16,15 @@ from types import SimpleNamespace
 from unittest import mock
 
 HERE = Path(__file__).resolve().parent
-TOP = HERE.parent.parent
 sys.dont_write_bytecode = True
-sys.path[:0] = [str(HERE), str(TOP / "python")]
+sys.path.insert(1, str(Path(__file__).resolve().parents[2] / "tools"))
+from checkout import TOP
 import flask
-import web
-from acts import Desk
-from book import Book, duplicates, user_of, with_row, with_rows
+from wakdulg_helpdesk import web
+from wakdulg_helpdesk.acts import Desk
+from wakdulg_helpdesk.book import Book, duplicates, user_of, with_row, with_rows
 from counting import await_that, expect, last_line
-from members import ClusterFile, State, row_of, settled
+from wakdulg_helpdesk.members import ClusterFile, State, row_of, settled
 from wakdulg_onboard.tokens import Token, read_rows
 from wakdulg_onboard.users_file import UsersFile
 
@@ -35,8 +35,8 @@ TYPES = ["HOTP", "HOTP/E", "HOTP/E/8", "HOTP/T30", "HOTP/T60", "HOTP/T60/7", "HO
 KILLED = """
 import sys
 sys.path[:0] = sys.argv[2:]
-from book import Book, with_rows
-from members import ClusterFile
+from wakdulg_helpdesk.book import Book, with_rows
+from wakdulg_helpdesk.members import ClusterFile
 from wakdulg_onboard.tokens import Token
 book = Book("users", sys.argv[1], ClusterFile("cluster"), "sh -c 'kill -9 $PPID'")
 book.change(with_rows([Token("a trial", bytes(range(1, 33)), "hotp", user="new")]))
@@ -151,7 +151,7 @@ def pending():
     Path("closed").unlink()
     await_that("it is copied again", book.pending, None, 20)
     expect("all of it", Path("copy").read_bytes(), Path("users").read_bytes())
-    done = subprocess.run([sys.executable, "-c", KILLED, OATHD, *sys.path[:2]])
+    done = subprocess.run([sys.executable, "-c", KILLED, OATHD, TOP / "python"])
     expect("a process that is killed amid the copy", (done.returncode, "new" in rows()), (-signal.SIGKILL, True))
     other = book_of()
     expect("the next one knows", (other.pending() is not None, Path("copy").read_bytes() == Path("users").read_bytes()),
@@ -210,8 +210,8 @@ def unit():
 
 def uploads():
     """A file of an import stays in memory, however long it is."""
-    words = SimpleNamespace(folders=[str(HERE)])
-    application, data = web.make_application(words, SimpleNamespace(name="trial"), []), b"x" * 1_900_000
+    site = SimpleNamespace(name="trial", templates=[])
+    application, data = web.make_application(site, []), b"x" * 1_900_000
     with mock.patch.multiple("tempfile", SpooledTemporaryFile=None, TemporaryFile=None, NamedTemporaryFile=None):
         with application.test_request_context(method="POST", data={"file": (io.BytesIO(data), "list.csv")}):
             expect("its bytes", flask.request.files["file"].read() == data, True)

@@ -20,13 +20,11 @@ import time
 from pathlib import Path
 
 sys.dont_write_bytecode = True
-HERE = Path(__file__).resolve().parent
-sys.path.insert(0, str(HERE))
 import browsing
 from browsing import Window, await_answer, await_that, expect, settle
-from trial_site import NODES, OATHTOOL, PLAIN_ADDRESS, Site, Token, read_rows, wakdulg
-from book import user_of
+from trial_site import NODES, OATHTOOL, PLAIN_ADDRESS, TOP, Site, Token, read_rows, wakdulg
 from otp import code
+from wakdulg_helpdesk.book import user_of
 from selenium.webdriver.common.by import By
 from selenium.webdriver.common.keys import Keys
 
@@ -392,7 +390,7 @@ class Test:
         browser.fill("A part of the user's name", "bo")
         browser.press("Show")
         expect("of one user", {row.split(" ")[5] for row in browser.texts("tbody tr")}, {"bob"})
-        words = [HERE / "helpdesk-record", "check", self.site.desk / "record"]
+        words = [TOP / "python/wakdulg-helpdesk-record", "check", self.site.desk / "record"]
         done = subprocess.run(words, capture_output=True, text=True)
         expect("its lines follow", (done.returncode, done.stdout.partition(" ")[2][:19]), (0, "lines, the last one"))
 

@@ -21,14 +21,14 @@ from urllib.parse import urljoin, urlsplit
 
 import fakes
 from counting import expect, last_line
-from fakes import CLUSTER, HERE, Browser, Killed, words_of
-from keeping import Keeper
-from members import Gate, Row, State
-from pages import make_application
-from passwords import HASHER
-from record import Record, check
-from sessions import Sessions
-from staff import check_staff, hashes_of, names_of
+from fakes import CLUSTER, TOP, Browser, Killed, words_of
+from wakdulg_helpdesk.keeping import Keeper
+from wakdulg_helpdesk.members import Gate, Row, State
+from wakdulg_helpdesk.pages import make_application
+from wakdulg_helpdesk.passwords import HASHER
+from wakdulg_helpdesk.record import Record, check
+from wakdulg_helpdesk.sessions import Sessions
+from wakdulg_helpdesk.staff import check_staff, hashes_of, names_of
 from wakdulg_onboard.tokens import read_rows
 
 real = time.time
@@ -48,7 +48,7 @@ class Site:
         """Starts the process: what an earlier one had in memory is gone."""
         next_codes = self.words.desk.cluster.next if hasattr(self, "words") else None
         self.words = words_of(lambda: Sessions("helpdesk", 900, 14400), lambda: Keeper("users", "helpdesk", 3600),
-                              folders=[str(HERE)], **self.more)
+                              **self.more)
         self.cluster, self.desk, self.members = self.words.desk.cluster, self.words.desk, self.words.desk.members
         self.cluster.next = next_codes or self.cluster.next
         self.application = make_application(self.words)
@@ -175,7 +175,7 @@ def killed() -> None:
 def kill_at(point: str, call: Any) -> None:
     """Makes a call in which the process is killed at a function: at the second call of `check`, of which the first one
     is for the try that writes nothing, and at the first call of another one."""
-    module, kind, name = point.split(".")
+    module, kind, name = ("wakdulg_helpdesk." + point).rsplit(".", 2)
     real, calls = getattr(getattr(sys.modules[module], kind), name), [0]
 
     def kill(*words: Any, **more: Any) -> Any:
@@ -227,7 +227,7 @@ def disk() -> None:
     expect("also after a restart", sam.ask(place("ann", "secret")).secret(), secret_of("ann"))
     told = "its end isn&#39;t known: the users file has the new row" in sam.ask(place("ann")).page
     expect("and the record tells", told, True)
-    with mock.patch("book.sync_folder"), mock.patch("wakdulg_onboard.users_file.sync_folder", side_effect=OSError("a fault")):
+    with mock.patch("wakdulg_helpdesk.book.sync_folder"), mock.patch("wakdulg_onboard.users_file.sync_folder", side_effect=OSError("a fault")):
         site.act(sam, "bob", "replace", kind="")
     expect("a fault after the change", "The users file is changed" in sam.alert(), True)
     expect("its secret", sam.ask(place("bob", "secret")).secret(), secret_of("bob"))
@@ -300,7 +300,7 @@ def staff_lines() -> None:
     Path("staff").write_text("sam %s\nkim %s enrol\n" % (HASH, HASH))
     expect("two are needed", "fewer than 2" in fault_of(lambda: check_staff("staff", 2)), True)
     for role, status in ("look", 0), ("all", 0), ("boss", 1):
-        words = [HERE / "staff-line", "zoe", role]
+        words = [TOP / "python/wakdulg-staff-line", "zoe", role]
         done = subprocess.run(words, input="a long password\n", capture_output=True, text=True)
         expect("staff-line " + role, (done.returncode, done.stdout.endswith(" %s\n" % role)), (status, not status))
 

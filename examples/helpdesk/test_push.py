@@ -19,7 +19,8 @@ from pathlib import Path
 
 HERE = Path(__file__).resolve().parent
 sys.dont_write_bytecode = True
-sys.path[:0] = [str(HERE), str(HERE.parent.parent / "tools/lib"), str(HERE.parent.parent / "python")]
+sys.path.insert(1, str(HERE.parents[1] / "tools"))
+import checkout
 from counting import await_that, expect, last_line
 from net import free_ports
 

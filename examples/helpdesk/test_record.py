@@ -16,17 +16,17 @@ import time
 from pathlib import Path
 from unittest import mock
 
-HERE = Path(__file__).resolve().parent
 sys.dont_write_bytecode = True
-sys.path.insert(0, str(HERE))
+sys.path.insert(1, str(Path(__file__).resolve().parents[2] / "tools"))
+from checkout import TOP
 from counting import expect, last_line
-from record import Record, check, files_of, lines_back, print_of, read_back, tail_of
+from wakdulg_helpdesk.record import Record, check, files_of, lines_back, print_of, read_back, tail_of
 
 # Processes that write one record at once.
 WRITER = """
 import sys
 sys.path.insert(0, sys.argv[1])
-from record import Record
+from wakdulg_helpdesk.record import Record
 record = Record("record", 4000)
 for number in range(100):
     record.write("sam", "unlock", "user%d" % number, "done", "-")
@@ -44,7 +44,7 @@ def told(path: str = "record") -> list[str]:
 
 def word(*words: str) -> tuple[int, str]:
     """Returns the status of helpdesk-record and the last line that it prints."""
-    done = subprocess.run([HERE / "helpdesk-record", *words], capture_output=True, text=True)
+    done = subprocess.run([TOP / "python/wakdulg-helpdesk-record", *words], capture_output=True, text=True)
     return done.returncode, (done.stdout + done.stderr).strip().rpartition("\n")[2]
 
 
@@ -132,7 +132,7 @@ def files() -> None:
 
 def writers() -> None:
     """Several processes write one record."""
-    running = [subprocess.Popen([sys.executable, "-c", WRITER, HERE]) for _ in range(4)]
+    running = [subprocess.Popen([sys.executable, "-c", WRITER, TOP / "python"]) for _ in range(4)]
     expect("each ends", [each.wait() for each in running], [0] * 4)
     found = check("record")
     expect("each line is there, and follows", (found.fault, found.lines, found.notes), ("", 400, []))

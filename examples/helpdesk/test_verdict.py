@@ -9,14 +9,14 @@ import sys
 from itertools import product
 from pathlib import Path
 
-HERE = Path(__file__).resolve().parent
 sys.dont_write_bytecode = True
-sys.path[:0] = [str(HERE), str(HERE.parent.parent / "python")]
-from book import User
+sys.path.insert(1, str(Path(__file__).resolve().parents[2] / "tools"))
+from checkout import TOP
+from wakdulg_helpdesk.book import User
 from counting import expect, last_line
-from everybody import locked_now, never_used, not_in_place
-from members import Gate, Row, State
-from verdict import lasting, verdict
+from wakdulg_helpdesk.everybody import locked_now, never_used, not_in_place
+from wakdulg_helpdesk.members import Gate, Row, State
+from wakdulg_helpdesk.verdict import lasting, verdict
 
 NOW = 1_800_000_000
 EVENT = User(b"ann", "HOTP/E/6", token=b"aa")

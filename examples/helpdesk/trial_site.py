@@ -14,14 +14,14 @@ import time
 from pathlib import Path
 
 HERE = Path(__file__).resolve().parent
-TOP = HERE.parent.parent
-sys.path[:0] = [str(HERE), str(TOP / "tools/lib"), str(TOP / "python")]
+sys.path.insert(1, str(HERE.parents[1] / "tools"))
+from checkout import TOP
 import wakdulg
-from members import Member, Silent
 from net import free_ports
 from otp import code
-from passwords import HASHER
-from wakdulg.operator import read_operator
+from wakdulg.operator import Silent, read_operator
+from wakdulg_helpdesk.members import Member
+from wakdulg_helpdesk.passwords import HASHER
 from wakdulg_onboard.tokens import read_rows
 
 OATHD = os.environ.get("OATHD", str(TOP / "oathd"))
@@ -203,7 +203,7 @@ class Site:
 
     def desk_words(self):
         """Returns the words of the service."""
-        words = [HERE / "helpdesk", "--operator", self.desk / "operator"]
+        words = [TOP / "python/wakdulg-helpdesk", "--operator", self.desk / "operator"]
         return words + ["--log=%d=%s" % (node, self.folder / ("log.%d" % node)) for node in NODES]
 
     def push(self):

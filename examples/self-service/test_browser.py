@@ -14,15 +14,15 @@ import threading
 import time
 from pathlib import Path
 
-HERE = Path(__file__).resolve().parent
 sys.dont_write_bytecode = True
-sys.path.insert(0, str(HERE.parent / "helpdesk"))
+sys.path.insert(0, str(Path(__file__).resolve().parents[1] / "helpdesk"))
 import browsing
 from browsing import Window, await_answer, await_that, expect, settle
-from trial_site import OATHTOOL, Site, Token
+from trial_site import OATHTOOL, TOP, Site, Token
 from otp import code
 from selenium.webdriver.common.by import By
 
+PROGRAM = TOP / "python/wakdulg-self-service"
 MARKUP = '<img/src=x/onerror="window.hacked=1">'
 LATE = 25
 
@@ -33,7 +33,7 @@ class UsersSite(Site):
 
     def desk_words(self):
         tell = "sh -c 'cat >> %s/told'" % self.desk
-        return [HERE / "self-service", "--allow", "resync", "--allow", "replace", "--late", LATE, "--tell", tell]
+        return [PROGRAM, "--allow", "resync", "--allow", "replace", "--late", LATE, "--tell", tell]
 
 
 class Client(Window):
@@ -81,7 +81,7 @@ class Test:
 
     def off(self):
         """Without its own word nothing starts, and only the acts that are named are there."""
-        words = [HERE / "self-service", "--key-file", "7:%s" % (self.site.folder / "front.key"), "--issuer", "Example"]
+        words = [PROGRAM, "--key-file", "7:%s" % (self.site.folder / "front.key"), "--issuer", "Example"]
         for name in "cluster", "users", "staff", "record":
             words += ["--" + name, self.site.desk / name]
         ends = [self.site.folder / "other-socket", self.site.url]

@@ -10,34 +10,23 @@ import os
 import sys
 import tempfile
 import time
-from importlib.machinery import SourceFileLoader
-from importlib.util import module_from_spec, spec_from_loader
 from pathlib import Path
 from typing import Any
 from unittest import mock
 
-HERE = Path(__file__).resolve().parent
-HELPDESK = HERE.parent / "helpdesk"
 sys.dont_write_bytecode = True
-sys.path.insert(0, str(HELPDESK))
+sys.path.insert(0, str(Path(__file__).resolve().parents[1] / "helpdesk"))
 import fakes
 from counting import await_that, expect, last_line
 from fakes import CLUSTER, Browser, Killed, words_of
-from keeping import Keeper
-from record import Record
-from sessions import Sessions
+from wakdulg_helpdesk.keeping import Keeper
+from wakdulg_helpdesk.record import Record
+from wakdulg_helpdesk.sessions import Sessions
 from wakdulg_onboard.tokens import read_rows
+from wakdulg_selfservice.pages import make_application
 
 USERS, WORD = ("ann", "bob"), "word-of-a-user"
 real = time.time
-
-
-def program() -> Any:
-    """Returns the program as a module."""
-    loader = SourceFileLoader("self_service", str(HERE / "self-service"))
-    module = module_from_spec(spec_from_loader("self_service", loader))
-    loader.exec_module(module)
-    return module
 
 
 class Site:
@@ -51,10 +40,10 @@ class Site:
     def start(self) -> None:
         """Starts the process: what an earlier one had in memory is gone."""
         words = words_of(lambda: Sessions("self-service", 300, 600), lambda: Keeper("users", "self-service", 600),
-                         folders=[str(HERE), str(HELPDESK)], **self.more)
+                         **self.more)
         self.cluster, self.keeper = words.desk.cluster, words.keeper
         self.next_codes = self.cluster.next = self.next_codes or self.cluster.next
-        self.application = PROGRAM.make_application(words)
+        self.application = make_application(words)
         self.application.testing = True
 
     def log_in(self, name: str = "ann", browser: Browser | None = None) -> Browser:
@@ -140,7 +129,7 @@ def killed() -> None:
     """The process is killed in a replacement: the browser gets the secret again if the row has it."""
     site = Site()
     ann = Browser(site.application)
-    for point, is_in in ("book.Book.set_mark", False), ("book.Book.copy", True):
+    for point, is_in in ("wakdulg_helpdesk.book.Book.set_mark", False), ("wakdulg_helpdesk.book.Book.copy", True):
         before, _ = secret_of("ann"), site.log_in(browser=ann)
         with mock.patch(point, side_effect=Killed):
             try:
@@ -230,7 +219,6 @@ def greeted() -> None:
 
 
 PARTS = [shown, ends, killed, disk, limit, told, greeted]
-PROGRAM = program()
 
 
 def main() -> bool:

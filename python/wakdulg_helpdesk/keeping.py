@@ -15,6 +15,7 @@ from typing import NamedTuple
 
 from cryptography.exceptions import InvalidTag
 from cryptography.hazmat.primitives.ciphers.aead import AESGCM
+
 from wakdulg_onboard.users_file import sync_folder
 
 NONCE = 12

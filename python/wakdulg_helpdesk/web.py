@@ -8,21 +8,25 @@ import shlex
 import threading
 import time
 from collections.abc import Callable, Sequence
+from pathlib import Path
 from typing import Any
 from urllib.parse import quote
 
 import flask
-import wakdulg
-from acts import Act
-from book import run_hook
 from flask import Flask, Response, redirect, render_template, request
 from jinja2 import FileSystemLoader
-from keeping import Kept
-from record import BEGINS, Line
-from sessions import Session, is_same
-from wakdulg_onboard.tokens import Fault
 from werkzeug.wrappers import Response as Answer
 
+import wakdulg
+from wakdulg_helpdesk.acts import Act
+from wakdulg_helpdesk.book import run_hook
+from wakdulg_helpdesk.keeping import Kept
+from wakdulg_helpdesk.record import BEGINS, Line
+from wakdulg_helpdesk.sessions import Session, is_same
+from wakdulg_onboard.tokens import Fault
+
+# The folder of the static files, and of the templates that sites share.
+FOLDER = Path(__file__).resolve().parent
 # A refusal takes this many seconds, so its time doesn't tell who exists.
 REFUSAL = 1.0
 # The hook that tells a user something is ended after this number of seconds.
@@ -69,9 +73,10 @@ def address() -> str:
 
 class Pages:
     """A site. Its name stands in titles, and its places in the navigation of whoever is logged in. `by` is what a user
-    is told of who replaced the phone."""
+    is told of who replaced the phone. A template is looked for in the folders of `templates`, in their order."""
     name, by = "", ""
     places: Sequence[tuple[str, str]] = ()
+    templates: Sequence[Path] = (FOLDER / "templates",)
 
     def __init__(self, words: Any) -> None:
         self.origin, self.desk, self.sessions, self.keeper = words.origin, words.desk, words.sessions, words.keeper
@@ -357,11 +362,11 @@ def moment_of(line: Line) -> str:
     return str(line.get("when", "")).replace("T", " ").replace("Z", " UTC")
 
 
-def make_application(words: Any, site: Pages, routes: Sequence[tuple[str, Any, str]]) -> Flask:
+def make_application(site: Pages, routes: Sequence[tuple[str, Any, str]]) -> Flask:
     """Returns the application of a site. A route is a path, a view and a method. Static files are the helpdesk's."""
-    application = Flask(site.name, root_path=words.folders[-1])
+    application = Flask(site.name, root_path=str(FOLDER))
     application.config["MAX_CONTENT_LENGTH"], application.request_class = 2_000_000, Request
-    application.jinja_loader = FileSystemLoader([folder + "/templates" for folder in words.folders])
+    application.jinja_loader = FileSystemLoader(site.templates)
     application.jinja_env.filters.update(at_moment=at_moment, moment_of=moment_of, to_hex=to_hex)
     application.jinja_env.trim_blocks = application.jinja_env.lstrip_blocks = True
     for path, view, method in routes:

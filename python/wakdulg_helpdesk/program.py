@@ -1,4 +1,3 @@
-#!/usr/bin/python3 -I
 """A helpdesk in the browser: staff look at users and at a cluster by names, unlock, resynchronize, enrol and retire.
 
     helpdesk --key-file NUMBER:FILE --operator FILE --cluster FILE --users FILE --staff FILE --record FILE
@@ -21,19 +20,13 @@ line of standard output.
 from __future__ import annotations
 
 import argparse
-import sys
-from pathlib import Path
 
-FOLDER = Path(__file__).resolve().parent
-sys.dont_write_bytecode = True
-sys.path.insert(0, str(FOLDER))
-sys.path += [str(FOLDER.parent), str(FOLDER.parent.parent / "python")]
-from keeping import Keeper
-from members import ClusterFile, Logs, Members, Table
-from pages import make_application
-from service import Service, oathd, parser_of, prepare
-from sessions import Sessions
-from staff import check_staff
+from wakdulg_helpdesk.keeping import Keeper
+from wakdulg_helpdesk.members import ClusterFile, Logs, Members, Table
+from wakdulg_helpdesk.pages import make_application
+from wakdulg_helpdesk.service import Service, oathd, parser_of, prepare
+from wakdulg_helpdesk.sessions import Sessions
+from wakdulg_helpdesk.staff import check_staff
 
 
 def log_of(text: str) -> tuple[int, str]:
@@ -50,7 +43,7 @@ def count_of(text: str) -> int:
 
 
 def read_words() -> argparse.Namespace:
-    parser = parser_of(__doc__.split("\n\n")[1].strip())
+    parser = parser_of("helpdesk", __doc__.split("\n\n")[1].strip())
     parser.add_argument("--operator", required=True)
     parser.add_argument("--log", action="append", type=log_of, default=[])
     parser.add_argument("--two-of-staff", action="store_true")
@@ -63,11 +56,12 @@ def read_words() -> argparse.Namespace:
         prepare(words, file, members)
     except (ValueError, OSError) as fault:
         parser.error(str(fault))
-    words.table, words.logs, words.folders = Table(members), Logs(dict(words.log)), [str(FOLDER)]
+    words.table, words.logs = Table(members), Logs(dict(words.log))
     words.sessions = Sessions("helpdesk", idle=15 * 60, longest=4 * 3600)
     words.keeper = Keeper(words.users, "helpdesk", longest=3600)
     return words
 
 
-if __name__ == "__main__":
+def main() -> None:
+    """Serves the pages until a signal comes."""
     Service(read_words(), make_application).run()

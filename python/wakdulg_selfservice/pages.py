@@ -1,42 +1,20 @@
-#!/usr/bin/python3 -I
-"""Self-service in the browser: a user with the password and a code resynchronizes the token, or replaces the phone.
-
-    self-service --allow ACT [--allow ACT] --key-file NUMBER:FILE --cluster FILE --users FILE --staff FILE --record FILE
-                 --issuer NAME [--push COMMAND] [--tell COMMAND] [--patience SECONDS] [--late SECONDS] SOCKET ORIGIN
-
-ACT is `resync` or `replace`, and without one nothing starts: whoever has a phone and its password for a minute can take
-the token for good by `replace`. Only users with a password in the users file are served, and none of --staff. All other
-words are as for `helpdesk`, whose modules it takes, but for an operator's key, which it hasn't. It may run beside the
-helpdesk over the same users file and the same record. --late (120): if no code of a new phone was accepted for this
-time, the page says that something is wrong. OATHD is the program, else oathd. docs/how-to/self-service.md
-shows it.
-
-Packages: python3-flask, python3-argon2, python3-cryptography, gunicorn, qrencode. Each answer of the cluster is a line
-of standard output.
-"""
+"""The pages of the self-service: what users see, and what they do."""
 from __future__ import annotations
 
 import secrets
-import sys
 import time
 from pathlib import Path
 from typing import Any
 
-FOLDER = Path(__file__).resolve().parent
-HELPDESK = FOLDER.parent / "helpdesk"
-sys.dont_write_bytecode = True
-sys.path.insert(0, str(HELPDESK))
-sys.path += [str(FOLDER.parent), str(FOLDER.parent.parent / "python")]
-import wakdulg
-import web
-from acts import Act, Shown
-from book import User
 from flask import Flask, redirect, request
-from keeping import Keeper, Kept
-from members import ClusterFile
-from record import BEGINS, Line
-from service import Service, parser_of, prepare
-from sessions import Session, Sessions, is_same
+
+import wakdulg
+from wakdulg_helpdesk import web
+from wakdulg_helpdesk.acts import Act, Shown
+from wakdulg_helpdesk.book import User
+from wakdulg_helpdesk.keeping import Kept
+from wakdulg_helpdesk.record import BEGINS, Line
+from wakdulg_helpdesk.sessions import Session, is_same
 from wakdulg_onboard.tokens import Fault
 
 CHANGED = "The row was changed meanwhile. Nothing was done."
@@ -71,6 +49,7 @@ def is_replacement(line: Line, user: str) -> bool:
 class Site(web.Pages):
     """What the self-service answers. The cluster checks each code with the password in one line."""
     name, by = "My token", "on the page for users"
+    templates = (Path(__file__).resolve().parent / "templates", *web.Pages.templates)
 
     def __init__(self, words: Any) -> None:
         super().__init__(words)
@@ -244,23 +223,4 @@ def make_application(words: Any) -> Flask:
     if "replace" in words.allow:
         routes += [("/replace", site.show_replace, "GET"), ("/replace", site.replace, "POST"),
                    ("/phone", site.show_phone, "GET"), ("/phone", site.confirm, "POST")]
-    return web.make_application(words, site, routes)
-
-
-def read_words() -> Any:
-    parser = parser_of(__doc__.split("\n\n")[1].strip())
-    parser.add_argument("--allow", action="append", choices=("resync", "replace"), required=True)
-    parser.add_argument("--late", type=float, default=120.0)
-    words = parser.parse_args()
-    try:
-        prepare(words, ClusterFile(words.cluster))
-    except (ValueError, OSError) as fault:
-        parser.error(str(fault))
-    words.folders = [str(FOLDER), str(HELPDESK)]
-    words.sessions = Sessions("self-service", idle=5 * 60, longest=10 * 60)
-    words.keeper = Keeper(words.users, "self-service", longest=10 * 60)
-    return words
-
-
-if __name__ == "__main__":
-    Service(read_words(), make_application).run()
+    return web.make_application(site, routes)

@@ -4,13 +4,14 @@ import logging
 import os
 import sys
 
-import wakdulg
-from acts import Desk
-from book import Book
 from gunicorn.app.base import BaseApplication
 from gunicorn.workers.gthread import ThreadWorker
-from record import Record
-from staff import staff_of
+
+import wakdulg
+from wakdulg_helpdesk.acts import Desk
+from wakdulg_helpdesk.book import Book
+from wakdulg_helpdesk.record import Record
+from wakdulg_helpdesk.staff import staff_of
 
 THREADS = 96
 LOG = logging.getLogger("logins")
@@ -32,10 +33,10 @@ class Service(BaseApplication):
         super().__init__()
 
     def load_config(self):
-        for name, value in {"workers": 1, "worker_class": "service.Worker", "threads": THREADS, "keepalive": 0,
-                            "worker_connections": 2 * THREADS, "backlog": 128, "umask": 0o007, "loglevel": "warning",
-                            "limit_request_line": 2048, "limit_request_fields": 20, "timeout": 300,
-                            "bind": "unix:" + self.words.socket}.items():
+        for name, value in {"workers": 1, "worker_class": "wakdulg_helpdesk.service.Worker", "threads": THREADS,
+                            "keepalive": 0, "worker_connections": 2 * THREADS, "backlog": 128, "umask": 0o007,
+                            "loglevel": "warning", "limit_request_line": 2048, "limit_request_fields": 20,
+                            "timeout": 300, "bind": "unix:" + self.words.socket}.items():
             self.cfg.set(name, value)
 
     def load(self):
@@ -49,8 +50,8 @@ def oathd():
     return os.environ.get("OATHD", "oathd")
 
 
-def parser_of(usage):
-    parser = argparse.ArgumentParser(usage=usage, allow_abbrev=False)
+def parser_of(program, usage):
+    parser = argparse.ArgumentParser(program, usage, allow_abbrev=False)
     for name in "key-file", "cluster", "users", "staff", "record", "issuer":
         parser.add_argument("--" + name, required=True)
     parser.add_argument("--push")

@@ -1,4 +1,3 @@
-#!/usr/bin/python3 -I
 """Looks whether lines of a record were changed or removed: helpdesk-record check RECORD
 
 Each line has the SHA-256 of the line before it. The files RECORD.1, RECORD.2 .. are followed before RECORD. It prints
@@ -6,13 +5,12 @@ the first line that doesn't follow, with status 1, or else how many lines there 
 Whoever can write the file can write all of it again, and lines that are cut off its end leave no gap. So keep the
 SHA-256 of a day elsewhere: `helpdesk-record check RECORD SHA256` also looks whether a line has it.
 """
+from __future__ import annotations
+
 import os
 import sys
-from pathlib import Path
 
-sys.dont_write_bytecode = True
-sys.path.insert(0, str(Path(__file__).resolve().parent))
-from record import check, lines_back, print_of
+from wakdulg_helpdesk.record import check, lines_back, print_of
 
 
 def main() -> None:

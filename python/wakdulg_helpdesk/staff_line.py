@@ -1,4 +1,3 @@
-#!/usr/bin/python3 -I
 """Makes a line of the file of staff: staff-line NAME [ROLE] >> staff
 
 It asks for the password twice, or reads one line of standard input if that is no terminal. A password has twelve
@@ -9,14 +8,9 @@ from __future__ import annotations
 
 import getpass
 import sys
-from pathlib import Path
 
-sys.dont_write_bytecode = True
-FOLDER = Path(__file__).resolve().parent
-sys.path.insert(0, str(FOLDER))
-sys.path += [str(FOLDER.parent), str(FOLDER.parent.parent / "python")]
-from passwords import HASHER, LEAST
-from staff import ROLES
+from wakdulg_helpdesk.passwords import HASHER, LEAST
+from wakdulg_helpdesk.staff import ROLES
 
 
 def read_password() -> str:

@@ -8,23 +8,23 @@ from itertools import islice, takewhile
 from typing import Any
 from urllib.parse import urlencode
 
-import record_view
-import wakdulg
-import web
-from acts import KINDS, Act, Shown
-from book import User
-from everybody import MOST, Everybody
 from flask import Flask, Response, redirect, render_template, request
-from keeping import Kept
-from members import settled
-from passwords import Passwords
-from record import BEGINS, REFUSED, Line, second_of
-from sessions import Session, is_same
-from staff import ROLES, hashes_of, rights_of
-from verdict import verdict
-from waiting import Asked, Waiting
+
+import wakdulg
+from wakdulg_helpdesk import record_view, web
+from wakdulg_helpdesk.acts import KINDS, Act, Shown
+from wakdulg_helpdesk.book import User
+from wakdulg_helpdesk.everybody import MOST, Everybody
+from wakdulg_helpdesk.keeping import Kept
+from wakdulg_helpdesk.members import settled
+from wakdulg_helpdesk.passwords import Passwords
+from wakdulg_helpdesk.record import BEGINS, REFUSED, Line, second_of
+from wakdulg_helpdesk.sessions import Session, is_same
+from wakdulg_helpdesk.staff import ROLES, hashes_of, rights_of
+from wakdulg_helpdesk.verdict import verdict
+from wakdulg_helpdesk.waiting import Asked, Waiting
+from wakdulg_helpdesk.web import NOT_BEGUN, NOT_KEPT, Stop, at_moment, moment_of, to_hex
 from wakdulg_onboard.tokens import Fault
-from web import NOT_BEGUN, NOT_KEPT, Stop, at_moment, moment_of, to_hex
 
 MOST_FOUND, MOST_LINES, MOST_ACTS = 50, 10, 200
 ACTS = {
@@ -478,4 +478,4 @@ def make_application(words: Any) -> Flask:
         ("/users/<name>/seen", site.confirm_seen, "POST"), ("/users/<name>/retired", site.show_retired, "GET"),
         ("/users/<name>/<act>", site.show_act, "GET"), ("/users/<name>/<act>", site.do_act, "POST"),
     ]
-    return web.make_application(words, site, routes)
+    return web.make_application(site, routes)

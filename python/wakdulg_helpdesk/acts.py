@@ -8,8 +8,8 @@ from collections.abc import Callable, Mapping, Sequence
 from typing import Any, NamedTuple
 
 import wakdulg
-from book import Book, Edit, User, duplicates, row_in, with_row, with_rows
-from members import Members
+from wakdulg_helpdesk.book import Book, Edit, User, duplicates, row_in, with_row, with_rows
+from wakdulg_helpdesk.members import Members
 from wakdulg_onboard import lists, phone
 from wakdulg_onboard.tokens import NEW_BYTES, Fault, Token
 from wakdulg_onboard.users_file import UsersFile
@@ -190,8 +190,8 @@ class Desk:
         return good, sorted(faults + twice, key=line_of) + self.oathd_faults(good)
 
     def oathd_faults(self, tokens: list[Token]) -> list[str]:
-        """Returns what `oathd check` says of the rows alone, one fault after the other: not too many, since each costs a
-        run over all rows."""
+        """Returns what `oathd check` says of the rows alone, one fault after the other: not too many, since each costs
+        a run over all rows."""
         rows, faults = [(token, token.row("-")) for token in tokens], list[str]()
         if len(rows) > MOST_ROWS:
             return ["the file: TooMany: it has %d rows, and a users file has %d at most" % (len(rows), MOST_ROWS)]

@@ -6,7 +6,7 @@ import threading
 import time
 from typing import NamedTuple
 
-from acts import Act
+from wakdulg_helpdesk.acts import Act
 from wakdulg_onboard.tokens import Fault
 
 LONGEST = 3600

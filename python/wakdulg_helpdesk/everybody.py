@@ -6,8 +6,8 @@ import time
 from collections.abc import Callable, Mapping, Sequence
 from typing import Any, NamedTuple
 
-from book import Book, User
-from members import Gate, Member, Members, Row
+from wakdulg_helpdesk.book import Book, User
+from wakdulg_helpdesk.members import Gate, Member, Members, Row
 
 MOST = 50
 # A list of a name and some words about it.

@@ -5,7 +5,7 @@ import csv
 import io
 from collections.abc import Callable, Iterable, Iterator, Mapping
 
-from record import Line
+from wakdulg_helpdesk.record import Line
 
 # The acts of a record, and the columns of its export.
 ACTS = ("unlock", "resync", "enrol", "replace", "retire", "import", "confirm", "tell", "log in", "log out")

@@ -1,7 +1,8 @@
-"""The passwords of staff. A row of the users file is the other factor: neither a phone nor a password alone is enough."""
+"""The passwords of staff. The token of the users file is the other factor: neither of both is enough."""
 import threading
 
 import argon2
+
 import wakdulg
 
 # RFC 9106, section 4: "SECOND RECOMMENDED option is Argon2id with t=3 iterations, p=4 lanes, m=2^(16) (64 MiB of RAM),

@@ -5,8 +5,8 @@ import time
 from collections.abc import Sequence
 from typing import NamedTuple
 
-from book import User
-from members import State
+from wakdulg_helpdesk.book import User
+from wakdulg_helpdesk.members import State
 
 
 class Verdict(NamedTuple):

@@ -13,9 +13,9 @@ from pathlib import Path
 from typing import NamedTuple
 
 import wakdulg
-from record import tail_of
 from wakdulg import operator as wakdulg_operator
 from wakdulg.operator import Silent
+from wakdulg_helpdesk.record import tail_of
 
 
 class Refusal(Exception):

@@ -1,0 +1,43 @@
+"""Self-service in the browser: a user with the password and a code resynchronizes the token, or replaces the phone.
+
+    self-service --allow ACT [--allow ACT] --key-file NUMBER:FILE --cluster FILE --users FILE --staff FILE --record FILE
+                 --issuer NAME [--push COMMAND] [--tell COMMAND] [--patience SECONDS] [--late SECONDS] SOCKET ORIGIN
+
+ACT is `resync` or `replace`, and without one nothing starts: whoever has a phone and its password for a minute can take
+the token for good by `replace`. Only users with a password in the users file are served, and none of --staff. All other
+words are as for `helpdesk`, whose modules it takes, but for an operator's key, which it hasn't. It may run beside the
+helpdesk over the same users file and the same record. --late (120): if no code of a new phone was accepted for this
+time, the page says that something is wrong. OATHD is the program, else oathd. docs/how-to/self-service.md
+shows it.
+
+Packages: python3-flask, python3-argon2, python3-cryptography, gunicorn, qrencode. Each answer of the cluster is a line
+of standard output.
+"""
+from __future__ import annotations
+
+from typing import Any
+
+from wakdulg_helpdesk.keeping import Keeper
+from wakdulg_helpdesk.members import ClusterFile
+from wakdulg_helpdesk.service import Service, parser_of, prepare
+from wakdulg_helpdesk.sessions import Sessions
+from wakdulg_selfservice.pages import make_application
+
+
+def read_words() -> Any:
+    parser = parser_of("self-service", __doc__.split("\n\n")[1].strip())
+    parser.add_argument("--allow", action="append", choices=("resync", "replace"), required=True)
+    parser.add_argument("--late", type=float, default=120.0)
+    words = parser.parse_args()
+    try:
+        prepare(words, ClusterFile(words.cluster))
+    except (ValueError, OSError) as fault:
+        parser.error(str(fault))
+    words.sessions = Sessions("self-service", idle=5 * 60, longest=10 * 60)
+    words.keeper = Keeper(words.users, "self-service", longest=10 * 60)
+    return words
+
+
+def main() -> None:
+    """Serves the pages until a signal comes."""
+    Service(read_words(), make_application).run()
