@@ -19,7 +19,8 @@ import wakdulg
 from wakdulg_helpdesk import web
 from wakdulg_helpdesk.acts import Desk
 from wakdulg_helpdesk.book import Book, User
-from wakdulg_helpdesk.members import ClusterFile, Gate, Row, State
+from wakdulg_helpdesk.cluster_file import ClusterFile
+from wakdulg_helpdesk.members import Gate, Row, State
 from wakdulg_helpdesk.record import Record
 from wakdulg_helpdesk.staff import staff_of
 from wakdulg_onboard.tokens import read_rows

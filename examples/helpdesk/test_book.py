@@ -24,7 +24,8 @@ from wakdulg_helpdesk import web
 from wakdulg_helpdesk.acts import Desk
 from wakdulg_helpdesk.book import Book, duplicates, user_of, with_row, with_rows
 from counting import await_that, expect, last_line
-from wakdulg_helpdesk.members import ClusterFile, State, row_of, settled
+from wakdulg_helpdesk.cluster_file import ClusterFile
+from wakdulg_helpdesk.members import State, row_of, settled
 from wakdulg_onboard.tokens import Token, read_rows
 from wakdulg_onboard.users_file import UsersFile
 
@@ -36,7 +37,7 @@ KILLED = """
 import sys
 sys.path[:0] = sys.argv[2:]
 from wakdulg_helpdesk.book import Book, with_rows
-from wakdulg_helpdesk.members import ClusterFile
+from wakdulg_helpdesk.cluster_file import ClusterFile
 from wakdulg_onboard.tokens import Token
 book = Book("users", sys.argv[1], ClusterFile("cluster"), "sh -c 'kill -9 $PPID'")
 book.change(with_rows([Token("a trial", bytes(range(1, 33)), "hotp", user="new")]))

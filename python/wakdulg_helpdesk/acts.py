@@ -4,8 +4,7 @@ from __future__ import annotations
 import re
 import secrets
 import subprocess
-from collections.abc import Callable, Mapping, Sequence
-from typing import Any, NamedTuple
+from typing import Any, Callable, Mapping, NamedTuple, Sequence
 
 import wakdulg
 from wakdulg_helpdesk.book import Book, Edit, User, duplicates, row_in, with_row, with_rows
@@ -103,9 +102,8 @@ class Desk:
 
     def __init__(self, book: Book, members: Members | None, cluster: wakdulg.Cluster, staff: Callable[[], set[str]],
                  issuer: str) -> None:
-        self.book, self.cluster, self.staff, self.issuer = book, cluster, staff, issuer
-        # A site without an operator's key has none, and no act that wants them.
-        self.members: Any = members
+        # A site without an operator's key has no members, and no act that wants them.
+        self.book, self.members, self.cluster, self.staff, self.issuer = book, members, cluster, staff, issuer
 
     def protect(self, name: str) -> None:
         """Refuses to change the row of a member of staff: who could do that could act in that name."""
@@ -113,7 +111,12 @@ class Desk:
             raise Fault("staff", "Protected", "%s is staff, whose rows are changed on the host alone" % name)
 
     def unlock(self, user: User, form: Form) -> Act:
-        return Act("unlock", user.text, lambda: self.members.unlock(user.name))
+        return Act("unlock", user.text, lambda: self.unlocked(user.name))
+
+    def unlocked(self, name: bytes) -> str:
+        if self.members is None:
+            raise Fault("the site", "NoOperator", "it has no operator's key")
+        return self.members.unlock(name)
 
     def resync(self, user: User, form: Form) -> Act:
         codes = read_codes(form)
@@ -181,7 +184,7 @@ class Desk:
                 if isinstance(each, Fault):
                     raise each
                 each.check()
-                self.protect(each.user)
+                self.protect(each.user or "")
                 good.append(each)
             except Fault as fault:
                 faults.append(str(fault))
@@ -192,7 +195,8 @@ class Desk:
     def oathd_faults(self, tokens: list[Token]) -> list[str]:
         """Returns what `oathd check` says of the rows alone, one fault after the other: not too many, since each costs
         a run over all rows."""
-        rows, faults = [(token, token.row("-")) for token in tokens], list[str]()
+        rows = [(token, token.row("-")) for token in tokens]
+        faults: list[str] = []
         if len(rows) > MOST_ROWS:
             return ["the file: TooMany: it has %d rows, and a users file has %d at most" % (len(rows), MOST_ROWS)]
         while rows and len(faults) < MOST_FAULTS:

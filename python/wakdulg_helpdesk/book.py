@@ -11,9 +11,9 @@ import signal
 import subprocess
 import threading
 import time
-from collections.abc import Callable
-from typing import NamedTuple
+from typing import Callable, Iterator, NamedTuple
 
+from wakdulg_helpdesk.cluster_file import ClusterFile
 from wakdulg_onboard.tokens import Fault, Row, Token, read_rows
 from wakdulg_onboard.users_file import UsersFile, ask_oathd, lock_beside, sync_folder
 
@@ -63,7 +63,7 @@ class User(NamedTuple):
         return "%s, %d digits, %s" % (what, self.digits(), HASHES.get(self.hash(), "SHA-1"))
 
 
-@functools.cache
+@functools.lru_cache(maxsize=None)
 def whole_type(word: bytes) -> bytes:
     """Returns the type of a row with its kind and its digits, as `oathd export` writes it."""
     fields = word.split(b"/")
@@ -97,16 +97,19 @@ class Book:
     # wait for the hook.
     PAUSE = 15
 
-    def __init__(self, path, oathd, file, push):
+    def __init__(self, path: str, oathd: str, file: ClusterFile, push: str | None) -> None:
         # The folder of the copy without the key lives as long as the file is kept.
         self.path, self.oathd, self.file, self.push = path, oathd, file, shlex.split(push or "")
         self.cluster, self.names = file.keyless, file.names
         self.mark, self.said = os.path.realpath(path) + ".pending", ""
-        self.stamp, self.users, self.folded, self.fault = None, {}, [], ""
+        self.stamp: tuple[int, int, int] | None = None
+        self.users: dict[bytes, User] = {}
+        self.folded: list[tuple[str, User]] = []
+        self.fault = ""
         self.reading, self.writing = threading.Lock(), threading.Lock()
         self.refresh()
 
-    def refresh(self):
+    def refresh(self) -> None:
         """Reads the file again if it changed. If it can't be read, or has a fault, the users of before stay."""
         with self.reading:
             try:
@@ -136,7 +139,7 @@ class Book:
         """Returns the name that a new token gets at the members."""
         return (user_of(read_rows(token.row("-"))[0], self.names).token or b"").decode()
 
-    def search(self, text, most):
+    def search(self, text: str, most: int) -> tuple[list[User], int]:
         """Returns the first users whose names have the text, those that begin with it first, and how many there are."""
         self.refresh()
         text = text.strip().casefold()
@@ -145,7 +148,7 @@ class Book:
         return [user for _, user in found[:most]], len(found)
 
     @contextlib.contextmanager
-    def lock(self, patience=20):
+    def lock(self, patience: float = 20) -> Iterator[None]:
         """Holds the lock of the folder. Another writer, as `onboard`, may have it for a while."""
         end = time.monotonic() + patience
         with self.writing:
@@ -184,7 +187,7 @@ class Book:
             self.refresh()
             return self.copy()
 
-    def copy(self):
+    def copy(self) -> tuple[bool, str]:
         """Has the hook copy the file. The file is no longer pending if that succeeded."""
         if not self.push:
             return False, "no --push copies the file to the members"
@@ -196,20 +199,20 @@ class Book:
 
     # ---- What is pending
 
-    def set_mark(self):
+    def set_mark(self) -> None:
         """Puts the mark on the disk. An earlier one stays, with its moment."""
         with contextlib.suppress(FileExistsError):
             os.close(os.open(self.mark, os.O_WRONLY | os.O_CREAT | os.O_EXCL | os.O_NOFOLLOW, 0o600))
         sync_folder(self.mark)
 
-    def pending(self):
+    def pending(self) -> float | None:
         """Returns the second since which not all members have the file, or None."""
         try:
             return os.lstat(self.mark).st_mtime
         except FileNotFoundError:
             return None
 
-    def copy_pending(self):
+    def copy_pending(self) -> None:
         """Has the hook copy a pending file, if `oathd check` takes it: it may have been changed by hand."""
         if self.pending() is None:
             return
@@ -221,9 +224,9 @@ class Book:
         except (OSError, Fault) as fault:
             self.said = str(fault)
 
-    def keep_copying(self):
+    def keep_copying(self) -> None:
         """Copies a pending file until all members have it, in a thread that ends with the process."""
-        def keep():
+        def keep() -> None:
             while True:
                 begin = time.monotonic()
                 self.copy_pending()
@@ -295,14 +298,15 @@ def device_of(secret: bytes) -> bytes:
 def duplicates(users: UsersFile, tokens: list[Token]) -> list[Fault]:
     """Returns a fault for each token whose user or secret the file, or an earlier token, has already. A secret is a
     device: if two users have it, a code of one lets in the other."""
-    names, devices = {}, {}
+    names: dict[bytes, str] = {}
+    devices: dict[bytes, str] = {}
     for row in users.rows:
         place = "line %d of the users file" % row.line
         names[row.user] = place
         devices[device_of(row.secret)] = "%s, %s" % (row.user.decode("utf-8", "backslashreplace"), place)
     faults = []
     for token in tokens:
-        name, device = token.user.encode(), device_of(token.secret.hex().encode())
+        name, device = (token.user or "").encode(), device_of(token.secret.hex().encode())
         if name in names:
             faults.append(Fault(token.place, "DuplicateUser", "%s has a token: %s" % (token.user, names[name])))
         elif device in devices:

@@ -3,15 +3,14 @@ from __future__ import annotations
 
 import threading
 import time
-from collections.abc import Callable, Mapping, Sequence
-from typing import Any, NamedTuple
+from typing import Any, Callable, List, Mapping, NamedTuple, Sequence, Tuple
 
 from wakdulg_helpdesk.book import Book, User
 from wakdulg_helpdesk.members import Gate, Member, Members, Row
 
 MOST = 50
 # A list of a name and some words about it.
-Names = list[tuple[str, str]]
+Names = List[Tuple[str, str]]
 
 
 class Lists(NamedTuple):

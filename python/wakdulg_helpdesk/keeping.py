@@ -10,8 +10,7 @@ import json
 import os
 import secrets
 import time
-from collections.abc import Iterator
-from typing import NamedTuple
+from typing import Iterator, NamedTuple
 
 from cryptography.exceptions import InvalidTag
 from cryptography.hazmat.primitives.ciphers.aead import AESGCM

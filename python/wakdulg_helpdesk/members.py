@@ -2,20 +2,25 @@
 from __future__ import annotations
 
 import concurrent.futures
-import os
 import re
 import socket
 import subprocess
-import tempfile
 import threading
 import time
-from pathlib import Path
-from typing import NamedTuple
+from typing import Any, Callable, Dict, Iterator, Mapping, NamedTuple, Sequence, Tuple, TypeVar
 
 import wakdulg
-from wakdulg import operator as wakdulg_operator
-from wakdulg.operator import Silent
+from wakdulg.operator import Operator, Request, Silent, hear, read_operator
+from wakdulg_helpdesk.book import User
+from wakdulg_helpdesk.cluster_file import ClusterFile
 from wakdulg_helpdesk.record import tail_of
+
+T = TypeVar("T")
+# What a page tells of the members: rows, what is said of them, a status and a moment.
+Told = Dict[str, Any]
+NOTHING: Told = {"rows": [], "said": "", "status": 2, "when": ""}
+# An answer to a user: member, moment, word, client, and the factor or reason.
+Answer = Tuple[int, str, str, str, str]
 
 
 class Refusal(Exception):
@@ -53,13 +58,14 @@ class Member:
     """One member, and where its store has the row of each user. A store never moves a row, and a user's row changes at
     a new boot alone."""
 
-    def __init__(self, number, address, key, pause):
+    def __init__(self, number: int, address: wakdulg.Node, key: Operator, pause: float) -> None:
         self.number, self.address, self.key, self.pause = number, address, key, pause
-        self.boot, self.count, self.places, self.lock = None, 0, {}, threading.Lock()
+        self.boot, self.count, self.lock = b"", 0, threading.Lock()
+        self.places: dict[bytes, int] = {}
 
-    def request(self, text):
+    def request(self, text: bytes) -> list[bytes]:
         """Returns the lines of a report. A request is sent at most three times."""
-        asked = wakdulg_operator.Request(text, self.key, self.number)
+        asked = Request(text, self.key, self.number)
         with socket.socket(socket.AF_INET, socket.SOCK_DGRAM) as client:
             client.connect(self.address)
             for _ in range(3):
@@ -71,26 +77,26 @@ class Member:
                     return lines
         raise Silent("member %d" % self.number)
 
-    def hear(self, client, asked):
+    def hear(self, client: socket.socket, asked: Request) -> bytes | None:
         end = time.monotonic() + self.pause
         try:
             client.send(asked.datagram())
-            return wakdulg_operator.hear(client, asked, end)
+            return hear(client, asked, end)
         except OSError:
             # Nobody is there.
             time.sleep(max(0, min(0.2, end - time.monotonic())))
             return None
 
-    def pages(self, word, begin):
+    def pages(self, word: bytes, begin: int) -> Iterator[bytes]:
         """Yields the lines of a report from the line `begin` on. It is of one moment, that of its first page."""
-        at = 0
+        at: int | None = 0
         while at is not None:
             lines = self.request(b"%b %d" % (word, at))
             mark = lines.pop().split()
             yield from lines[max(0, begin - at):]
             at = None if mark[0] == b"end" else max(int(mark[1]), begin)
 
-    def again(self, call):
+    def again(self, call: Callable[[], T]) -> T:
         """Returns what a call returns. Another report may begin amid the pages of one: then it is asked for again."""
         for _ in range(4):
             try:
@@ -100,13 +106,13 @@ class Member:
                     raise
         raise Silent("member %d" % self.number)
 
-    def report(self, word, begin=0):
+    def report(self, word: bytes, begin: int = 0) -> list[bytes]:
         """Returns the lines of a whole report."""
         return self.again(lambda: list(self.pages(word, begin)))
 
-    def row_at(self, place, user):
+    def row_at(self, place: int, user: bytes) -> Row | None:
         """Returns the row at a place, if it is the user's. It takes two pages at most."""
-        def ask():
+        def ask() -> Row | None:
             lines, at = self.request(b"ROSTER 0"), place
             if at >= len(lines) - 1 and lines[-1] != b"end":
                 lines, at = self.request(b"ROSTER %d" % place), 0
@@ -114,7 +120,7 @@ class Member:
         row = self.again(ask)
         return row if row and row.user == user else None
 
-    def learn(self, begin):
+    def learn(self, begin: int) -> dict[bytes, Row]:
         """Returns the rows from a place on by their users, and keeps in mind where they are."""
         rows = [row_of(line) for line in self.report(b"ROSTER", begin)]
         found = {row.user: row for row in rows if row.user != b"-"}
@@ -123,7 +129,7 @@ class Member:
         self.count = begin + len(rows)
         return found
 
-    def row_of_user(self, user):
+    def row_of_user(self, user: bytes) -> Row | None:
         """Returns the row of a user, or None. New rows stand at the end. All rows are asked for only if the boot is
         new, and the row is neither there nor in its old place."""
         with self.lock:
@@ -154,7 +160,7 @@ class Member:
         """Returns the failures of a user in a row and the second at which the token opens, or 0 and 0."""
         return next(((gate.failures, gate.until) for gate in self.gates() if gate.user == user), (0, 0))
 
-    def unlock(self, user):
+    def unlock(self, user: bytes) -> None:
         self.request(b"UNLOCK " + user)
 
 
@@ -169,7 +175,7 @@ class State(NamedTuple):
     until: int = 0
 
 
-def settled(states, what):
+def settled(states: Sequence[State], what: str) -> str:
     """Returns how many members have what the users file says. It is in force if they are more than half: no vote can
     pass by the others alone."""
     done, count = sum(state.is_done for state in states), len(states)
@@ -177,36 +183,19 @@ def settled(states, what):
     return "%d of %d members %s%s." % (done, count, what, more)
 
 
-class ClusterFile:
-    """A cluster file by names: its word of names, the addresses of its members, and a copy of it without the key.
-    `oathd check` finds the faults of a users file under any key, so a site needs none of the cluster's."""
-
-    def __init__(self, path):
-        lines = [line.split() for line in Path(path).read_text().splitlines()]
-        lines = [fields for fields in lines if fields and not fields[0].startswith("#")]
-        self.names = next((fields[1].encode() for fields in lines if fields[0] == "names" and len(fields) > 1), None)
-        if self.names is None:
-            raise ValueError("the cluster file gives no names: " + path)
-        self.nodes = ",".join(fields[2] for fields in lines if fields[0] == "member")
-        self.folder = tempfile.TemporaryDirectory()
-        self.keyless = os.path.join(self.folder.name, "cluster")
-        kept = [" ".join(fields) for fields in lines if fields[0] not in ("key", "key-file")]
-        Path(self.keyless).write_text("\n".join([*kept, "key " + "00" * 32, ""]))
-
-
 class Members:
     """The members of a cluster file, in order."""
 
-    def __init__(self, file, operator_file, oathd, patience):
+    def __init__(self, file: ClusterFile, operator_file: str, oathd: str, patience: float) -> None:
         self.oathd, self.operator_file, self.keyless = oathd, operator_file, file.keyless
-        key = wakdulg_operator.read_operator(operator_file)
+        key = read_operator(operator_file)
         self.all = [Member(number, wakdulg.read_node(node), key, patience / 8)
                     for number, node in enumerate(file.nodes.split(","), 1)]
         self.pool = concurrent.futures.ThreadPoolExecutor(4 * len(self.all))
 
-    def ask_all(self, call):
+    def ask_all(self, call: Callable[[Member], Any]) -> list[Any]:
         """Returns what a call returns for each member, at once, or the exception that it raises."""
-        def one(member):
+        def one(member: Member) -> Any:
             try:
                 return call(member)
             except (Silent, Refusal, OSError) as fault:
@@ -214,7 +203,7 @@ class Members:
         return list(self.pool.map(one, self.all))
 
     @staticmethod
-    def state_at(member, user):
+    def state_at(member: Member, user: User) -> State:
         """Returns the state of a user. Tokens are compared, since the row of an old phone has the user's name too."""
         try:
             row = member.row_of_user(user.name)
@@ -226,17 +215,17 @@ class Members:
         is_done = row.token == user.token
         return State(member.number, "yes" if is_done else "another", is_done, row.floor, failures, until)
 
-    def states(self, user):
+    def states(self, user: User) -> list[State]:
         return self.ask_all(lambda member: self.state_at(member, user))
 
-    def unlock(self, user):
+    def unlock(self, user: bytes) -> str:
         """Returns a word for each member: unlocked, or what hinders it."""
         told = self.ask_all(lambda member: member.unlock(user))
-        words = {type(None): "unlocked", Silent: "silent"}
+        words: dict[type, str] = {type(None): "unlocked", Silent: "silent"}
         return ", ".join("member %d: %s" % (member.number, words.get(type(what), str(what)))
                          for member, what in zip(self.all, told))
 
-    def table(self):
+    def table(self) -> Told:
         """Returns the rows of `oathd status --cluster`, with its head, or what it said."""
         words = [self.oathd, "status", "--cluster", self.keyless, "--operator", self.operator_file]
         done = subprocess.run(words, capture_output=True, text=True, timeout=120)
@@ -249,11 +238,11 @@ class Table:
     """The last table of the members. It is asked for while somebody looks at it, every few seconds."""
     PAUSE, MOST = 4, 16
 
-    def __init__(self, members):
-        self.members, self.ready, self.last, self.number, self.asked = members, threading.Condition(), None, 0, 0
+    def __init__(self, members: Members) -> None:
+        self.members, self.ready, self.last, self.number, self.asked = members, threading.Condition(), NOTHING, 0, 0.0
         self.is_asking, self.places = False, threading.BoundedSemaphore(self.MOST)
 
-    def after(self, number, patience=150):
+    def after(self, number: int, patience: float = 150) -> tuple[int, Told]:
         """Returns the number of a table later than `number`, and the table. One thread asks for all who wait."""
         end = time.monotonic() + patience
         with self.ready:
@@ -272,38 +261,39 @@ class Table:
                 self.last, self.number = table, self.number + 1
             return self.number, self.last
 
-    def ask(self):
+    def ask(self) -> Told:
         time.sleep(max(0, self.asked + self.PAUSE - time.monotonic()) if self.number else 0)
         try:
             table = self.members.table()
         except (OSError, subprocess.SubprocessError) as fault:
-            table = {"rows": [], "said": type(fault).__name__, "status": 2, "when": ""}
+            table = {**NOTHING, "said": type(fault).__name__}
         self.asked = time.monotonic()
         return table
 
-    def now(self):
+    def now(self) -> tuple[int, Told]:
         """Returns a table that is some seconds old at most."""
         with self.ready:
             is_old = time.monotonic() > self.asked + 2 * self.PAUSE
             number, last = self.number, self.last
-        return (number, last) if last and not is_old else self.after(number)
+        return (number, last) if number and not is_old else self.after(number)
 
 
 class Logs:
     """The logs of members, as far as this host has them: the path of each member's log."""
     LINE = re.compile(rb'(?:(.*?) )?(accepted|refused) from=([^ ]+) (OK|NO) [^ ]+ (.*) user="((?:[^"\\]|\\x..)*)"')
 
-    def __init__(self, paths):
+    def __init__(self, paths: Mapping[int, str]) -> None:
         self.paths = paths
 
     @staticmethod
-    def quoted(user):
+    def quoted(user: bytes) -> bytes:
         return "".join(chr(byte) if 33 <= byte <= 126 and byte not in b'"\\' else "\\x%02x" % byte
                        for byte in user).encode()
 
-    def last(self, user, count):
-        """Returns the last answers to a user: member, moment, word, client, and the factor or reason."""
-        found, name = [], self.quoted(user)
+    def last(self, user: bytes, count: int) -> list[Answer]:
+        """Returns the last answers to a user."""
+        found: list[Answer] = []
+        name = self.quoted(user)
         for member, path in sorted(self.paths.items()):
             try:
                 lines = tail_of(path)
@@ -312,6 +302,7 @@ class Logs:
             mine = [match.groups() for line in lines if b'user="%b"' % name in line
                     and (match := self.LINE.fullmatch(line)) and match[6] == name]
             for moment, word, client, _, rest, _ in mine[-count:][::-1]:
-                told = [(field or b"").decode("ascii", "replace") for field in (moment, word, client, rest)]
-                found.append((member, *told))
+                when, said, who, why = ((field or b"").decode("ascii", "replace")
+                                        for field in (moment, word, client, rest))
+                found.append((member, when, said, who, why))
         return sorted(found, key=lambda each: each[1], reverse=True)

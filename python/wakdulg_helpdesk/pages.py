@@ -3,12 +3,12 @@ from __future__ import annotations
 
 import json
 import time
-from collections.abc import Callable, Iterator
 from itertools import islice, takewhile
-from typing import Any
+from typing import Any, Callable, Iterator
 from urllib.parse import urlencode
 
-from flask import Flask, Response, redirect, render_template, request
+from flask import Flask, Response, jsonify, redirect, render_template, request
+from flask.typing import ResponseReturnValue as Reply
 
 import wakdulg
 from wakdulg_helpdesk import record_view, web
@@ -24,7 +24,7 @@ from wakdulg_helpdesk.staff import ROLES, hashes_of, rights_of
 from wakdulg_helpdesk.verdict import verdict
 from wakdulg_helpdesk.waiting import Asked, Waiting
 from wakdulg_helpdesk.web import NOT_BEGUN, NOT_KEPT, Stop, at_moment, moment_of, to_hex
-from wakdulg_onboard.tokens import Fault
+from wakdulg_onboard.tokens import Fault, Token
 
 MOST_FOUND, MOST_LINES, MOST_ACTS = 50, 10, 200
 ACTS = {
@@ -130,15 +130,15 @@ class Site(web.Pages):
         users, count = self.book.search(text, MOST_FOUND)
         return text, users, count
 
-    def show_search(self) -> Any:
+    def show_search(self) -> Reply:
         session = self.own_session()
         text, users, count = self.found()
         return self.page("search.html", "Search", session, text=text, users=users, count=count, fault=self.book.fault)
 
-    def search(self) -> Any:
+    def search(self) -> Reply:
         begin = time.thread_time()
         if self.session() is None:
-            return {}, 401
+            return jsonify({}), 401
         text, users, count = self.found()
         answer = Response(json.dumps({"count": count, "users": [[user.hex, user.text, user.kind()] for user in users]}),
                           content_type="application/json")
@@ -170,14 +170,14 @@ class Site(web.Pages):
         latest = takewhile(lambda line: not is_settling(line), done)
         return {"done": done, "unfinished": [line for line in latest if line.get("outcome") == BEGINS]}
 
-    def show_user(self, name: str) -> Any:
+    def show_user(self, name: str) -> Reply:
         session, user = self.own_session(), self.user_of(name)
         acts = {act: words for act, words in ACTS.items() if act in self.rights(session)}
         waiting = [asked for asked in self.waiting.all() if asked.act.user == user.text]
         return self.page("user.html", user.text, session, acts=acts, answers=self.logs.last(user.name, MOST_LINES),
                          waiting=waiting, **self.done_to(user), **self.states_of(user))
 
-    def show_retired(self, name: str) -> Any:
+    def show_retired(self, name: str) -> Reply:
         """Which members have a row of a user still, whom the file has no more."""
         session, user = self.own_session(), self.user_of(name, is_retired=True)
         if user.token:
@@ -185,7 +185,7 @@ class Site(web.Pages):
         return self.page("retired.html", "%s has no row" % user.text, session, **self.done_to(user),
                          **self.states_of(user))
 
-    def show_states(self, name: str) -> Any:
+    def show_states(self, name: str) -> Reply:
         """A part of a page: which members have the row. It doesn't keep the session alive."""
         if self.session(is_used=False) is None:
             return "", 401
@@ -197,18 +197,18 @@ class Site(web.Pages):
         pending = "" if self.book.pending() is None else "the members are well, and not all have the users file"
         return {**table, "said": table["said"] or pending or "all members are well"}
 
-    def show_cluster(self) -> Any:
+    def show_cluster(self) -> Reply:
         session = self.own_session()
         return self.page("cluster.html", "The cluster", session, table=self.told(self.table.now()[1]),
                          lists=self.everybody.now(), most=MOST)
 
-    def show_lists(self) -> Any:
+    def show_lists(self) -> Reply:
         """A part of the page of the cluster. It doesn't keep the session alive."""
         if self.session(is_used=False) is None:
             return "", 401
         return render_template("lists.html", lists=self.everybody.now(), most=MOST)
 
-    def events(self) -> Any:
+    def events(self) -> Reply:
         """Sends a table whenever there is a new one, while the session lives. It doesn't keep the session alive."""
         if self.session(is_used=False) is None:
             return "", 401
@@ -228,13 +228,13 @@ class Site(web.Pages):
                 self.table.places.release()
         return Response(tell(), content_type="text/event-stream", headers={"X-Accel-Buffering": "no"})
 
-    def show_record(self) -> Any:
+    def show_record(self) -> Reply:
         session, query = self.own_session(), record_view.query_of(request.args)
         done = list(islice((line for line in self.record.acts() if record_view.takes(query, line)), MOST_ACTS))
         return self.page("record.html", "What staff did", session, done=done, query=query, words=record_view.ACTS,
                          most=MOST_ACTS, export="/record.csv?" + urlencode(query))
 
-    def export_record(self) -> Any:
+    def export_record(self) -> Reply:
         """Sends all acts that the filter takes, the latest first."""
         self.own_session()
         query = record_view.query_of(request.args)
@@ -274,20 +274,20 @@ class Site(web.Pages):
         page = "/secret" if act.shown else "/retired" if act.name == "retire" else ""
         return "/" if act.name == "import" else "/users/%s%s" % (to_hex(act.user), page)
 
-    def confirmation(self, session: Session, user: User, act: str, fault: str = "", status: int = 200) -> Any:
+    def confirmation(self, session: Session, user: User, act: str, fault: str = "", status: int = 200) -> Reply:
         title, what = ACTS[act]
         seen = self.sessions.mark(user.mark)
         return self.page("confirm.html", "%s: %s" % (title, user.text), session, user=user, act=act, button=title,
                          what=what, seen=seen, kinds=KINDS, fault=fault), status
 
-    def show_act(self, name: str, act: str) -> Any:
+    def show_act(self, name: str, act: str) -> Reply:
         session, user = self.own_session(), self.user_of(name)
         if act not in ACTS:
             return "", 404
         self.entitle(session, act)
         return self.confirmation(session, user, act)
 
-    def do_act(self, name: str, act: str) -> Any:
+    def do_act(self, name: str, act: str) -> Reply:
         session, user = self.posted(), self.user_of(name)
         if act not in ACTS:
             return "", 404
@@ -301,13 +301,13 @@ class Site(web.Pages):
         told, status = self.perform(session, ready)
         return self.confirmation(session, user, act, told, status) if told else redirect(self.path_after(ready), 303)
 
-    def show_enrol(self, fault: str = "", status: int = 200) -> Any:
+    def show_enrol(self, fault: str = "", status: int = 200) -> Reply:
         session = self.own_session()
         self.entitle(session, "enrol")
         return self.page("enrol.html", "Enrol a user", session, kinds=KINDS, fault=fault,
                          kind=request.form.get("kind", "totp"), name=request.form.get("name", "")), status
 
-    def enrol(self) -> Any:
+    def enrol(self) -> Reply:
         session = self.posted()
         self.entitle(session, "enrol")
         try:
@@ -337,7 +337,7 @@ class Site(web.Pages):
         titles = {**{act: words[0] for act, words in ACTS.items()}, "import": "Import", "enrol": "Enrol"}
         return "%s: %s" % (titles[asked.act.name], asked.act.user)
 
-    def show_waiting(self) -> Any:
+    def show_waiting(self) -> Reply:
         session = self.own_session()
         return self.page("waiting.html", "What waits for another one of staff", session, waiting=self.waiting.all())
 
@@ -348,13 +348,13 @@ class Site(web.Pages):
             raise Stop((self.page("message.html", "Nothing waits here", session, fault=gone), 404))
         return asked
 
-    def show_asked(self, id: str, fault: str = "", status: int = 200) -> Any:
+    def show_asked(self, id: str, fault: str = "", status: int = 200) -> Reply:
         session = self.own_session()
         asked = self.asked_for(session, id)
         return self.page("asked.html", self.title_of(asked), session, asked=asked, fault=fault,
                          is_own=asked.who == session.user), status
 
-    def confirm_asked(self, id: str) -> Any:
+    def confirm_asked(self, id: str) -> Reply:
         """Does what another one of staff asked for, after a code of this one."""
         session = self.posted()
         asked = self.asked_for(session, id)
@@ -391,14 +391,14 @@ class Site(web.Pages):
     def kept_of(self, session: Session, user: User) -> Kept | None:
         return next((kept for kept in self.unconfirmed(session) if kept.user == user.text), None)
 
-    def show_secret(self, name: str) -> Any:
+    def show_secret(self, name: str) -> Reply:
         """Shows a new secret until staff say that the phone has it."""
         session, user = self.own_session(), self.user_of(name)
         kept = self.kept_of(session, user)
         return self.page("secret.html", "The new phone of %s" % user.text, session,
                          shown=Shown(kept.uri, kept.kind) if kept else None, **self.states_of(user))
 
-    def confirm_seen(self, name: str) -> Any:
+    def confirm_seen(self, name: str) -> Reply:
         session, user = self.posted(), self.user_of(name)
         kept = self.kept_of(session, user)
         if kept:
@@ -407,12 +407,12 @@ class Site(web.Pages):
             session.alert = self.note(session.user, "confirm", user.text, "the phone has the new secret")
         return redirect("/users/" + user.hex, 303)
 
-    def show_import(self, fault: str = "", status: int = 200) -> Any:
+    def show_import(self, fault: str = "", status: int = 200) -> Reply:
         session = self.own_session()
         self.entitle(session, "import")
         return self.page("import.html", "Import users", session, fault=fault), status
 
-    def dry_run(self) -> Any:
+    def dry_run(self) -> Reply:
         """Reads a file and keeps its rows in the session, since they have secrets that no page may have."""
         session, file = self.posted(), request.files.get("file")
         self.entitle(session, "import")
@@ -427,18 +427,18 @@ class Site(web.Pages):
         session.imports = {name: (tokens, faults)}
         return redirect("/import/" + name, 303)
 
-    def kept_import(self, session: Session, name: str) -> Any:
+    def kept_import(self, session: Session, name: str) -> tuple[list[Token], list[str]]:
         if name not in session.imports:
             raise Stop((self.page("message.html", "No such import", session, fault="It is done, or is too old."), 404))
         return session.imports[name]
 
-    def show_dry_run(self, name: str, fault: str = "", status: int = 200) -> Any:
+    def show_dry_run(self, name: str, fault: str = "", status: int = 200) -> Reply:
         session = self.own_session()
         tokens, faults = self.kept_import(session, name)
         rows = [(token.user, token.type_word(), token.place) for token in tokens]
         return self.page("dry-run.html", "Import: dry run", session, rows=rows, faults=faults, fault=fault), status
 
-    def do_import(self, name: str) -> Any:
+    def do_import(self, name: str) -> Reply:
         session = self.posted()
         self.entitle(session, "import")
         tokens, faults = self.kept_import(session, name)
@@ -464,7 +464,7 @@ def is_settling(line: Line) -> bool:
 def make_application(words: Any) -> Flask:
     """Returns the application of these words."""
     site = Site(words)
-    routes = [
+    routes: list[web.Route] = [
         ("/", site.show_search, "GET"), ("/search.json", site.search, "GET"), ("/login", site.show_login, "GET"),
         ("/login", site.log_in, "POST"), ("/logout", site.log_out, "POST"), ("/cluster", site.show_cluster, "GET"),
         ("/cluster/events", site.events, "GET"), ("/cluster/lists", site.show_lists, "GET"),

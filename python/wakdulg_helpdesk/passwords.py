@@ -1,5 +1,8 @@
 """The passwords of staff. The token of the users file is the other factor: neither of both is enough."""
+from __future__ import annotations
+
 import threading
+from typing import Callable, Mapping
 
 import argon2
 
@@ -16,10 +19,10 @@ OF_NOBODY = "$argon2id$v=19$m=65536,t=3,p=4$" + "A" * 22 + "$" + "A" * 43
 class Passwords:
     """The passwords of staff. One at a time is compared, since each takes 64 MiB, and few wait."""
 
-    def __init__(self, hashes):
+    def __init__(self, hashes: Callable[[], Mapping[str, str]]) -> None:
         self.hashes, self.turn, self.places = hashes, threading.Lock(), threading.BoundedSemaphore(16)
 
-    def check(self, user, password):
+    def check(self, user: str, password: str) -> None:
         """Raises a refusal if the user isn't staff, or the password is another one."""
         if not self.places.acquire(blocking=False):
             raise wakdulg.Undecided("BUSY")
@@ -35,8 +38,8 @@ class Passwords:
             raise wakdulg.BadField("not a password")
 
     @staticmethod
-    def is_of(password, known):
+    def is_of(password: str, known: str) -> bool:
         try:
-            return HASHER.verify(known, password)
+            return bool(HASHER.verify(known, password))
         except (argon2.exceptions.VerificationError, argon2.exceptions.InvalidHash):
             return False

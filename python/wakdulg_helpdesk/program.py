@@ -21,8 +21,9 @@ from __future__ import annotations
 
 import argparse
 
+from wakdulg_helpdesk.cluster_file import ClusterFile
 from wakdulg_helpdesk.keeping import Keeper
-from wakdulg_helpdesk.members import ClusterFile, Logs, Members, Table
+from wakdulg_helpdesk.members import Logs, Members, Table
 from wakdulg_helpdesk.pages import make_application
 from wakdulg_helpdesk.service import Service, oathd, parser_of, prepare
 from wakdulg_helpdesk.sessions import Sessions

@@ -11,16 +11,15 @@ import re
 import threading
 import time
 from collections import Counter
-from collections.abc import Iterator
 from itertools import islice
-from typing import Any, NamedTuple
+from typing import Any, Dict, Iterator, NamedTuple
 
 # A block that is read at once, and the bytes of a file at which the next line begins another file.
 BLOCK, MOST_BYTES = 1 << 20, 10_000_000
 BEGINS, REFUSED = "begins", "refused"
 # What each line begins with. The moment follows.
 WHEN = b'{"when": "'
-Line = dict[str, Any]
+Line = Dict[str, Any]
 
 
 def print_of(line: bytes) -> str:
@@ -50,7 +49,7 @@ def read_back(path: str, block: int = BLOCK) -> Iterator[bytes]:
             begin = max(0, at - block)
             file.seek(begin)
             data = file.read(at - begin)
-            data = data.removesuffix(b"\n") if at == size else data
+            data = data[:-1] if at == size and data.endswith(b"\n") else data
             rest, *lines = (data + rest).split(b"\n")
             yield from reversed(lines)
             at = begin

@@ -3,7 +3,7 @@ from __future__ import annotations
 
 import csv
 import io
-from collections.abc import Callable, Iterable, Iterator, Mapping
+from typing import Callable, Dict, Iterable, Iterator, Mapping
 
 from wakdulg_helpdesk.record import Line
 
@@ -11,7 +11,7 @@ from wakdulg_helpdesk.record import Line
 ACTS = ("unlock", "resync", "enrol", "replace", "retire", "import", "confirm", "tell", "log in", "log out")
 COLUMNS = ("when", "who", "act", "user", "outcome", "from", "asked")
 FIELDS = ("user", "who", "act")
-Query = dict[str, str]
+Query = Dict[str, str]
 
 
 def query_of(words: Mapping[str, str]) -> Query:

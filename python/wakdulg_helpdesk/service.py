@@ -1,15 +1,21 @@
 """How a site runs: the words that all have, the log of logins, and gunicorn with one process."""
+from __future__ import annotations
+
 import argparse
 import logging
 import os
 import sys
+from typing import Any, Callable
 
+from flask import Flask
 from gunicorn.app.base import BaseApplication
 from gunicorn.workers.gthread import ThreadWorker
 
 import wakdulg
 from wakdulg_helpdesk.acts import Desk
 from wakdulg_helpdesk.book import Book
+from wakdulg_helpdesk.cluster_file import ClusterFile
+from wakdulg_helpdesk.members import Members
 from wakdulg_helpdesk.record import Record
 from wakdulg_helpdesk.staff import staff_of
 
@@ -20,7 +26,7 @@ LOG = logging.getLogger("logins")
 class Worker(ThreadWorker):
     """A process whose threads wait for ten seconds for what a client sends, and no longer."""
 
-    def handle(self, conn):
+    def handle(self, conn: Any) -> Any:
         conn.sock.settimeout(10)
         return super().handle(conn)
 
@@ -28,29 +34,29 @@ class Worker(ThreadWorker):
 class Service(BaseApplication):
     """gunicorn with one process, since sessions are in its memory. Each connection has one request."""
 
-    def __init__(self, words, make_application):
+    def __init__(self, words: argparse.Namespace, make_application: Callable[[Any], Flask]) -> None:
         self.words, self.make_application = words, make_application
         super().__init__()
 
-    def load_config(self):
+    def load_config(self) -> None:
         for name, value in {"workers": 1, "worker_class": "wakdulg_helpdesk.service.Worker", "threads": THREADS,
                             "keepalive": 0, "worker_connections": 2 * THREADS, "backlog": 128, "umask": 0o007,
                             "loglevel": "warning", "limit_request_line": 2048, "limit_request_fields": 20,
                             "timeout": 300, "bind": "unix:" + self.words.socket}.items():
             self.cfg.set(name, value)
 
-    def load(self):
+    def load(self) -> Flask:
         # In the process that serves, since a thread isn't in the child of a process.
         self.words.desk.book.keep_copying()
         self.words.keeper.remove_old()
         return self.make_application(self.words)
 
 
-def oathd():
+def oathd() -> str:
     return os.environ.get("OATHD", "oathd")
 
 
-def parser_of(program, usage):
+def parser_of(program: str, usage: str) -> argparse.ArgumentParser:
     parser = argparse.ArgumentParser(program, usage, allow_abbrev=False)
     for name in "key-file", "cluster", "users", "staff", "record", "issuer":
         parser.add_argument("--" + name, required=True)
@@ -62,7 +68,7 @@ def parser_of(program, usage):
     return parser
 
 
-def prepare(words, file, members=None):
+def prepare(words: argparse.Namespace, file: ClusterFile, members: Members | None = None) -> None:
     """Puts into the words what they name: the desk over a cluster file, the record and the log."""
     pauses = words.patience / 8, words.patience * 5 / 16
     cluster = wakdulg.Cluster(file.nodes, pauses, words.patience, key=wakdulg.read_key(words.key_file))

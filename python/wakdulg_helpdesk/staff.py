@@ -2,13 +2,14 @@
 from __future__ import annotations
 
 import re
-from collections.abc import Callable
 from pathlib import Path
+from typing import Callable
 
 # The acts of each role. A line without a role has the last one.
-UNLOCK = frozenset({"unlock", "resync"})
+LOOK: frozenset[str] = frozenset()
+UNLOCK = LOOK | {"unlock", "resync"}
 ENROL = UNLOCK | {"enrol", "replace", "retire"}
-ROLES = {"look": frozenset[str](), "unlock": UNLOCK, "enrol": ENROL, "all": ENROL | {"import"}}
+ROLES = {"look": LOOK, "unlock": UNLOCK, "enrol": ENROL, "all": ENROL | {"import"}}
 LINE = re.compile(r"(\S+)[ \t]+(\$argon2id\$\S+)(?:[ \t]+(%s))?" % "|".join(ROLES))
 
 

@@ -2,8 +2,7 @@
 from __future__ import annotations
 
 import time
-from collections.abc import Sequence
-from typing import NamedTuple
+from typing import NamedTuple, Sequence
 
 from wakdulg_helpdesk.book import User
 from wakdulg_helpdesk.members import State

@@ -3,30 +3,33 @@ from __future__ import annotations
 
 import contextlib
 import io
+import logging
 import re
 import shlex
 import threading
 import time
-from collections.abc import Callable, Sequence
 from pathlib import Path
-from typing import Any
+from typing import Any, Callable, Sequence, Tuple
 from urllib.parse import quote
 
 import flask
 from flask import Flask, Response, redirect, render_template, request
+from flask.typing import ResponseReturnValue as Reply
 from jinja2 import FileSystemLoader
 from werkzeug.wrappers import Response as Answer
 
 import wakdulg
-from wakdulg_helpdesk.acts import Act
+from wakdulg_helpdesk.acts import Act, Desk
 from wakdulg_helpdesk.book import run_hook
-from wakdulg_helpdesk.keeping import Kept
-from wakdulg_helpdesk.record import BEGINS, Line
-from wakdulg_helpdesk.sessions import Session, is_same
+from wakdulg_helpdesk.keeping import Keeper, Kept
+from wakdulg_helpdesk.record import BEGINS, Line, Record
+from wakdulg_helpdesk.sessions import Session, Sessions, is_same
 from wakdulg_onboard.tokens import Fault
 
 # The folder of the static files, and of the templates that sites share.
 FOLDER = Path(__file__).resolve().parent
+# A path, a view and a method.
+Route = Tuple[str, Callable[..., Reply], str]
 # A refusal takes this many seconds, so its time doesn't tell who exists.
 REFUSAL = 1.0
 # The hook that tells a user something is ended after this number of seconds.
@@ -55,7 +58,7 @@ HEADERS = {
 class Stop(Exception):
     """The answer in place of a page."""
 
-    def __init__(self, answer: Any) -> None:
+    def __init__(self, answer: Reply) -> None:
         super().__init__()
         self.answer = answer
 
@@ -79,10 +82,13 @@ class Pages:
     templates: Sequence[Path] = (FOLDER / "templates",)
 
     def __init__(self, words: Any) -> None:
-        self.origin, self.desk, self.sessions, self.keeper = words.origin, words.desk, words.sessions, words.keeper
-        self.book, self.cluster = words.desk.book, words.desk.cluster
-        self.record, self.login_log, self.beginning = words.record, words.login_log, threading.Lock()
-        self.teller = shlex.split(words.tell or "")
+        self.desk: Desk = words.desk
+        self.sessions: Sessions = words.sessions
+        self.keeper: Keeper = words.keeper
+        self.record: Record = words.record
+        self.login_log: logging.Logger = words.login_log
+        self.origin, self.book, self.cluster = words.origin, self.desk.book, self.desk.cluster
+        self.beginning, self.teller = threading.Lock(), shlex.split(words.tell or "")
 
     # ---- Who asks
 
@@ -344,7 +350,8 @@ def own_path(text: str | None) -> str:
 
 def login_path() -> str:
     """Returns the path of the login that leads back to the page that was asked for."""
-    path = own_path(request.full_path.removesuffix("?"))
+    full = request.full_path
+    path = own_path(full[:-1] if full.endswith("?") else full)
     return "/login?next=" + quote(path) if path not in ("", "/") else "/login"
 
 
@@ -362,8 +369,8 @@ def moment_of(line: Line) -> str:
     return str(line.get("when", "")).replace("T", " ").replace("Z", " UTC")
 
 
-def make_application(site: Pages, routes: Sequence[tuple[str, Any, str]]) -> Flask:
-    """Returns the application of a site. A route is a path, a view and a method. Static files are the helpdesk's."""
+def make_application(site: Pages, routes: Sequence[Route]) -> Flask:
+    """Returns the application of a site. Static files are the helpdesk's."""
     application = Flask(site.name, root_path=str(FOLDER))
     application.config["MAX_CONTENT_LENGTH"], application.request_class = 2_000_000, Request
     application.jinja_loader = FileSystemLoader(site.templates)
@@ -371,9 +378,13 @@ def make_application(site: Pages, routes: Sequence[tuple[str, Any, str]]) -> Fla
     application.jinja_env.trim_blocks = application.jinja_env.lstrip_blocks = True
     for path, view, method in routes:
         application.add_url_rule(path, method + path, view, methods=[method])
-    application.register_error_handler(Stop, lambda stop: stop.answer)
+    application.register_error_handler(Stop, answer_of)
     application.after_request(with_headers)
     return application
+
+
+def answer_of(stop: Stop) -> Reply:
+    return stop.answer
 
 
 def with_headers(answer: Answer) -> Answer:

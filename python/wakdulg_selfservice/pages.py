@@ -4,9 +4,10 @@ from __future__ import annotations
 import secrets
 import time
 from pathlib import Path
-from typing import Any
+from typing import Any, Callable
 
-from flask import Flask, redirect, request
+from flask import Flask, Response, redirect, request
+from flask.typing import ResponseReturnValue as Reply
 
 import wakdulg
 from wakdulg_helpdesk import web
@@ -83,7 +84,7 @@ class Site(web.Pages):
         its time are those of an unknown user, and no code is used up."""
         return name if self.user_of(name) else secrets.token_hex(16)
 
-    def ask(self, user: str, call: Any) -> Any:
+    def ask(self, user: str, call: Callable[[], wakdulg.Accepted]) -> tuple[Any, tuple[str, int] | None]:
         """Asks the cluster. The log has no name that nobody has, since it may be a password in the wrong field."""
         return super().ask(user if self.user_of(user) else "", call)
 
@@ -92,14 +93,14 @@ class Site(web.Pages):
 
     # ---- Pages
 
-    def show_home(self) -> Any:
+    def show_home(self) -> Reply:
         session = self.own_session()
         return self.page("home.html", "Your token", session, user=self.own_user(session))
 
-    def show_resync(self, fault: str = "", status: int = 200) -> Any:
+    def show_resync(self, fault: str = "", status: int = 200) -> Reply:
         return self.open_page("resync.html", "Resynchronize", status, fault=fault)
 
-    def resync(self) -> Any:
+    def resync(self) -> Reply:
         """Sets the counter of a token that is far ahead, and logs in. It wants no session: no login takes the codes of
         such a token."""
         if not self.is_own_form():
@@ -119,13 +120,13 @@ class Site(web.Pages):
         return next((kept for kept in self.kept() if self.user_of(kept.user)
                      and (session is None or session.user == kept.user)), None)
 
-    def show_replace(self, fault: str = "", status: int = 200) -> Any:
+    def show_replace(self, fault: str = "", status: int = 200) -> Reply:
         session = self.own_session()
         seen = self.sessions.mark(self.own_user(session).mark)
         return self.page("replace.html", "Replace the phone", session, seen=seen, fault=fault,
                          is_known=self.kept_phone() is not None), status
 
-    def replace(self) -> Any:
+    def replace(self) -> Reply:
         """Replaces the phone of whoever gives the password and the next code of the old one. So a browser that was left
         open gives no token away. What this browser was given, and isn't in use, is replaced without them."""
         session = self.posted()
@@ -137,9 +138,9 @@ class Site(web.Pages):
             act = self.desk.replace(user, {})
         except (Fault, OSError) as fault:
             return self.show_replace("Nothing was done: " + self.words_of(fault), 409)
-        fault, status = self.perform(session, act)
-        if fault:
-            return self.show_replace(fault, status)
+        told, status = self.perform(session, act)
+        if told:
+            return self.show_replace(told, status)
         session.row = self.row_of(user.text)
         return redirect("/phone", 303)
 
@@ -148,10 +149,11 @@ class Site(web.Pages):
         if fault := self.too_many(session.user):
             return fault, 429
         known = self.kept_phone()
-        outcome, told = (None, None) if known else self.ask(act.user, lambda: self.check_login(act.user))
-        if told:
-            self.note_replacement(act.user, "refused: %s" % outcome)
-            return told
+        if known is None:
+            outcome, told = self.ask(act.user, lambda: self.check_login(act.user))
+            if told:
+                self.note_replacement(act.user, "refused: %s" % outcome)
+                return told
         fault, status = self.carry_out(session, act)
         # The page of the new phone says what is to be said.
         session.notice = ""
@@ -185,39 +187,41 @@ class Site(web.Pages):
     def note_replacement(self, user: str, outcome: str) -> str:
         return self.note(user, "replace", user, outcome)
 
-    def show_phone(self, fault: str = "", status: int = 200) -> Any:
+    def show_phone(self, fault: str = "", status: int = 200) -> Reply:
         """Shows the new secret, and asks for the first code of the new phone. The secret is kept until the cluster has
         accepted that code, the user logs out, or ten minutes are over: without it the user is shut out. So it is shown
         to this browser also if a restart of the site ended the session."""
         session, kept = self.session(), self.kept_phone()
         if kept is None:
             return redirect("/" if session else "/login", 303)
-        told = {"shown": Shown(kept.uri, kept.kind), "fault": fault, "is_copied": self.book.pending() is None}
+        told: dict[str, Any] = {"shown": Shown(kept.uri, kept.kind), "fault": fault,
+                                "is_copied": self.book.pending() is None}
         if session is None:
             return self.open_page("phone.html", "The new phone", status, **told)
         return self.page("phone.html", "The new phone", session, **told), status
 
-    def confirm(self) -> Any:
+    def confirm(self) -> Reply:
         """Asks the cluster once for the first code of the new phone: to ask again by itself would close the token."""
         if not self.is_own_form():
             return self.open_page("message.html", "Refused", 403, fault=web.FOREIGN)
         session, kept = self.session(), self.kept_phone()
         if kept is None:
             return redirect("/" if session else "/login", 303)
-        outcome, told = self.ask(kept.user, lambda: self.check_login(kept.user))
+        user = kept.user
+        outcome, told = self.ask(user, lambda: self.check_login(user))
         if not told:
-            self.note_replacement(kept.user, "the new phone is in use")
+            self.note_replacement(user, "the new phone is in use")
             self.keeper.forget(kept.path)
-            return self.end_session(web.Response(self.page("in-use.html", "The new phone is in use")))
+            return self.end_session(Response(self.page("in-use.html", "The new phone is in use")))
         late = time.time() - kept.made
-        alert = self.note_replacement(kept.user, "not confirmed after %d s: %s" % (late, outcome))
+        alert = self.note_replacement(user, "not confirmed after %d s: %s" % (late, outcome))
         return self.show_phone(" ".join([NOT_YET if late < self.late else TOO_LATE % late, alert]).strip(), told[1])
 
 
 def make_application(words: Any) -> Flask:
     site = Site(words)
-    routes = [("/", site.show_home, "GET"), ("/login", site.show_login, "GET"), ("/login", site.log_in, "POST"),
-              ("/logout", site.log_out, "POST")]
+    routes: list[web.Route] = [("/", site.show_home, "GET"), ("/login", site.show_login, "GET"),
+                               ("/login", site.log_in, "POST"), ("/logout", site.log_out, "POST")]
     if "resync" in words.allow:
         routes += [("/resync", site.show_resync, "GET"), ("/resync", site.resync, "POST")]
     if "replace" in words.allow:

@@ -15,16 +15,16 @@ of standard output.
 """
 from __future__ import annotations
 
-from typing import Any
+import argparse
 
+from wakdulg_helpdesk.cluster_file import ClusterFile
 from wakdulg_helpdesk.keeping import Keeper
-from wakdulg_helpdesk.members import ClusterFile
 from wakdulg_helpdesk.service import Service, parser_of, prepare
 from wakdulg_helpdesk.sessions import Sessions
 from wakdulg_selfservice.pages import make_application
 
 
-def read_words() -> Any:
+def read_words() -> argparse.Namespace:
     parser = parser_of("self-service", __doc__.split("\n\n")[1].strip())
     parser.add_argument("--allow", action="append", choices=("resync", "replace"), required=True)
     parser.add_argument("--late", type=float, default=120.0)
