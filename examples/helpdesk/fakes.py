@@ -1,40 +1,29 @@
-"""What a trial of pages has in the place of a cluster and a browser: no node, no Chromium, the same requests."""
+"""What a test of pages has in the place of a cluster and a browser: no node, no Chromium, the same requests."""
 from __future__ import annotations
 
+import base64
 import html
 import logging
 import os
 import re
-import sys
-import time
 from collections import Counter
 from pathlib import Path
 from types import SimpleNamespace
-from typing import Any
+from typing import Any, Callable
 
-sys.dont_write_bytecode = True
-sys.path.insert(1, str(Path(__file__).resolve().parents[2] / "tools"))
-from checkout import TOP
 import wakdulg
-from wakdulg_helpdesk import web
 from wakdulg_helpdesk.acts import Desk
 from wakdulg_helpdesk.book import Book, User
 from wakdulg_helpdesk.cluster_file import ClusterFile
+from wakdulg_helpdesk.keeping import Keeper
 from wakdulg_helpdesk.members import Gate, Row, State
 from wakdulg_helpdesk.record import Record
+from wakdulg_helpdesk.sessions import Sessions
 from wakdulg_helpdesk.staff import staff_of
 from wakdulg_onboard.tokens import read_rows
 
-OATHD = os.environ.get("OATHD", str(TOP / "oathd"))
+OATHD = os.environ.get("OATHD", str(Path(__file__).resolve().parents[2] / "oathd"))
 ORIGIN = "https://helpdesk.example"
-CLUSTER = """names trial-of-pages
-life 1
-key-file key
-new-tokens fresh
-member 1 127.0.0.1:9
-member 2 127.0.0.1:10
-member 3 127.0.0.1:11
-"""
 
 
 class Killed(BaseException):
@@ -45,7 +34,8 @@ class Cluster:
     """Accepts the codes 000000, 000001 .. of each user once, in their order, with the password of the row."""
 
     def __init__(self, book: Book) -> None:
-        self.book, self.next, self.asked = book, Counter[str](), 0
+        self.book, self.asked = book, 0
+        self.next: Counter[str] = Counter()
         self.factors: dict[str, int] = {}
 
     def code(self, user: str) -> str:
@@ -70,7 +60,7 @@ class Cluster:
 
 
 class Member:
-    """A member that has the rows and the gates that a trial gives it."""
+    """A member that has the rows and the gates that a test gives it."""
 
     def __init__(self, number: int) -> None:
         self.number, self.boot, self.read = number, b"boot 1", 0
@@ -89,13 +79,13 @@ class Member:
 
 
 class Members:
-    """Three members that have what a trial says, or else the row of the users file."""
+    """Three members that have what a test says, or else the row of the users file."""
 
     def __init__(self) -> None:
         self.told: dict[str, list[State]] = {}
         self.all = [Member(number) for number in (1, 2, 3)]
 
-    def ask_all(self, call: Any) -> list[Any]:
+    def ask_all(self, call: Callable[[Member], Any]) -> list[Any]:
         return [call(member) for member in self.all]
 
     def states(self, user: User) -> list[State]:
@@ -114,8 +104,8 @@ class Table:
         return 1, {"rows": rows, "said": "", "status": 0, "when": "00:00:00 UTC"}
 
 
-def words_of(make_sessions: Any, make_keeper: Any, **more: Any) -> Any:
-    """Returns the words of a site over the files of the present folder, as its process has them after a start."""
+def words_of(sessions: Sessions, keeper: Keeper, **more: Any) -> Any:
+    """Returns the words of a site over the files of the working directory, as its process has them after a start."""
     book = Book("users", OATHD, ClusterFile("cluster"), "true")
     cluster: Any = Cluster(book)
     members: Any = Members()
@@ -123,14 +113,9 @@ def words_of(make_sessions: Any, make_keeper: Any, **more: Any) -> Any:
     log.setLevel(logging.CRITICAL)
     more = {"tell": None, **more}
     desk = Desk(book, members, cluster, staff_of("staff"), "Example Site")
-    return SimpleNamespace(origin=ORIGIN, desk=desk, record=Record("record"), sessions=make_sessions(),
-                           keeper=make_keeper(), staff="staff", login_log=log, table=Table(),
-                           logs=SimpleNamespace(last=lambda user, count: []), users="users", **more)
-
-
-def without_pauses() -> None:
-    """A refusal takes no time in a trial."""
-    web.REFUSAL = 0
+    logs = SimpleNamespace(last=lambda user, count: [])
+    return SimpleNamespace(origin=ORIGIN, desk=desk, record=Record("record"), sessions=sessions, keeper=keeper,
+                           staff="staff", login_log=log, table=Table(), logs=logs, users="users", **more)
 
 
 class Browser:
@@ -157,6 +142,16 @@ class Browser:
         hidden = re.findall(r'<input type="hidden" name="(\w+)" value="([^"]*)"', self.page)
         return self.ask(path, {**{name: html.unescape(text) for name, text in hidden}, **fields})
 
+    def find(self, pattern: str) -> str:
+        """Returns what the group of a pattern has on the page."""
+        found = re.search(pattern, self.page)
+        assert found, "%s: %s" % (pattern, self.page)
+        return found[1]
+
+    def text(self) -> str:
+        """Returns the page with one blank in the place of all blanks."""
+        return " ".join(self.page.split())
+
     def alert(self) -> str:
         return " ".join(" ".join(re.findall(r'role="alert" class="fault">([^<]*)', self.page)).split())
 
@@ -166,5 +161,12 @@ class Browser:
         return found[1].replace(" ", "") if found else ""
 
 
-def at_step(period: int) -> int:
-    return int(time.time()) // period
+def secret_of(name: str) -> str:
+    """Returns the secret of a row in base32, or "" if nobody has the name."""
+    row = next((row for row in read_rows(Path("users").read_bytes()) if row.user == name.encode()), None)
+    return base64.b32encode(bytes.fromhex(row.secret.decode())).decode().rstrip("=") if row else ""
+
+
+def left() -> list[str]:
+    """Returns the files that have a kept secret."""
+    return [each for each in os.listdir(".") if ".kept-" in each]

@@ -1,7 +1,7 @@
 #!/usr/bin/python3
-"""Tries the pages of the helpdesk without nodes and without a browser: test_pages.py [PART ..]
+"""Tries the pages of the helpdesk without nodes and without a browser.
 
-The last line counts. OATHD is the program. Packages: python3-flask, python3-argon2, python3-cryptography, qrencode.
+OATHD is the program, else ./oathd of the checkout.
 """
 from __future__ import annotations
 
@@ -10,31 +10,43 @@ import csv
 import io
 import os
 import re
-import subprocess
 import sys
-import tempfile
 import time
+import unittest
+from importlib.util import find_spec
 from pathlib import Path
-from typing import Any
+from types import SimpleNamespace
+from typing import TYPE_CHECKING, Any, Callable
 from unittest import mock
 from urllib.parse import urljoin, urlsplit
 
-import fakes
-from counting import expect, last_line
-from fakes import CLUSTER, TOP, Browser, Killed, words_of
-from wakdulg_helpdesk.keeping import Keeper
-from wakdulg_helpdesk.members import Gate, Row, State
-from wakdulg_helpdesk.pages import make_application
-from wakdulg_helpdesk.passwords import HASHER
-from wakdulg_helpdesk.record import Record, check
-from wakdulg_helpdesk.sessions import Sessions
-from wakdulg_helpdesk.staff import check_staff, hashes_of, names_of
-from wakdulg_onboard.tokens import read_rows
+sys.dont_write_bytecode = True
+sys.path.insert(1, str(Path(__file__).resolve().parents[2] / "tools"))
+import checkout
+from tests.cases import HAS_PACKAGES, OverSite
 
-real = time.time
-PASSWORD = "a word of staff"
-STAFF = ("sam", "kim")
-USERS = ("ann", "bob", "cid")
+HAS_ARGON2 = find_spec("argon2") is not None
+if TYPE_CHECKING or HAS_PACKAGES and HAS_ARGON2:
+    import argon2
+    import flask
+
+    from fakes import ORIGIN, Browser, Killed, left, secret_of, words_of
+    from wakdulg_helpdesk import web
+    from wakdulg_helpdesk.book import Book
+    from wakdulg_helpdesk.keeping import Keeper
+    from wakdulg_helpdesk.members import Gate, Row, State
+    from wakdulg_helpdesk.pages import make_application
+    from wakdulg_helpdesk.record import Record, check
+    from wakdulg_helpdesk.sessions import Sessions
+    from wakdulg_helpdesk.staff import check_staff, hashes_of, names_of
+
+    PASSWORD = "a word of staff"
+    # It costs less than one of staff-line: the parameters of a check are those of the hash.
+    HASH = argon2.PasswordHasher(time_cost=1, memory_cost=8, parallelism=1).hash(PASSWORD)
+
+STAFF, USERS = ("sam", "kim"), ("ann", "bob", "cid")
+WAITING = 'href="(/waiting/[^"]*)"'
+real_time = time.time
 
 
 class Site:
@@ -42,29 +54,32 @@ class Site:
 
     def __init__(self, **more: Any) -> None:
         self.more = {"two_of_staff": False, "acts": 60, **more}
+        self.next_codes: Any = None
         self.start()
 
     def start(self) -> None:
         """Starts the process: what an earlier one had in memory is gone."""
-        next_codes = self.words.desk.cluster.next if hasattr(self, "words") else None
-        self.words = words_of(lambda: Sessions("helpdesk", 900, 14400), lambda: Keeper("users", "helpdesk", 3600),
-                              **self.more)
-        self.cluster, self.desk, self.members = self.words.desk.cluster, self.words.desk, self.words.desk.members
-        self.cluster.next = next_codes or self.cluster.next
+        self.words = words_of(Sessions("helpdesk", 900, 14400), Keeper("users", "helpdesk", 3600), **self.more)
+        self.desk = self.words.desk
+        self.cluster, self.members = self.desk.cluster, self.desk.members
+        self.next_codes = self.cluster.next = self.next_codes or self.cluster.next
         self.application = make_application(self.words)
         self.application.testing = True
 
-    def log_in(self, name: str = "sam", browser: Browser | None = None, next: str = "") -> Browser:
+    def log_in(self, name: str = "sam", browser: Browser | None = None) -> Browser:
         """Returns a browser in which somebody has logged in."""
         browser = browser or Browser(self.application)
         browser.application = self.application
-        browser.ask("/login" + ("?next=" + next if next else ""))
+        browser.ask("/login")
         return browser.send("/login", user=name, password=PASSWORD, code=self.cluster.code(name))
 
     def code(self, name: str = "sam") -> str:
-        return self.cluster.code(name)
+        """Returns the next code of a member of staff."""
+        code: str = self.cluster.code(name)
+        return code
 
     def act(self, browser: Browser, name: str, act: str, who: str = "sam", **fields: str) -> Browser:
+        """Sends the form of an act on a user."""
         browser.ask(place(name, act))
         return browser.send(place(name, act), code=self.code(who), **fields)
 
@@ -73,110 +88,20 @@ def place(name: str, act: str = "") -> str:
     return "/users/" + name.encode().hex() + ("/" + act if act else "")
 
 
-def begin(folder: str) -> None:
-    os.chdir(folder)
-    for each in os.listdir("."):
-        os.unlink(each)
-    Path("cluster").write_text(CLUSTER)
-    Path("key").write_text("0c" * 32)
-    Path("staff").write_text("".join("%s %s\n" % (name, HASH) for name in STAFF))
-    Path("users").write_text(rows_of(*STAFF, *USERS))
-
-
 def rows_of(*names: str) -> str:
     """Returns the text of a users file with a row for each name."""
     return "".join("HOTP %s - %040x\n" % (name, number) for number, name in enumerate(names, 1))
 
 
-def secret_of(name: str) -> str | None:
-    """Returns the secret of a row in base32."""
-    row = next((row for row in read_rows(Path("users").read_bytes()) if row.user == name.encode()), None)
-    return base64.b32encode(bytes.fromhex(row.secret.decode())).decode().rstrip("=") if row else None
-
-
-def left() -> list[str]:
-    """Returns the files that have a kept secret."""
-    return [each for each in os.listdir(".") if ".kept-" in each]
-
-
 def outcomes() -> list[str]:
+    """Returns the outcomes of the record, the latest first."""
     return [line["outcome"] for _, line in Record("record").lines()]
 
 
-# ---- The parts
-
-def shown() -> None:
-    """A new secret is shown until staff say that the phone has it."""
-    site = Site()
-    sam = site.log_in()
-    site.act(sam, "ann", "replace", kind="")
-    expect("where it is shown", sam.place, place("ann", "secret"))
-    expect("the row's", [sam.ask(place("ann", "secret")).secret() for _ in range(2)], [secret_of("ann")] * 2)
-    expect("each page leads there", place("ann", "secret") in sam.ask("/").page, True)
-    data = b"".join(Path(each).read_bytes() for each in left())
-    raw = base64.b32decode(secret_of("ann") or "")
-    expect("the file doesn't show it", (raw in data, secret_of("ann").encode() in data, len(left())), (False, False, 1))
-    expect("its mode", os.stat(left()[0]).st_mode & 0o777, 0o600)
-    kim = site.log_in("kim")
-    expect("another one of staff doesn't see it", kim.ask(place("ann", "secret")).secret(), "")
-    other = site.log_in()
-    expect("nor the same one in another browser", other.ask(place("ann", "secret")).secret(), "")
-    sam.ask(place("ann", "secret")).send(place("ann", "seen"))
-    expect("confirmed", (sam.place, left(), sam.ask(place("ann", "secret")).secret()), (place("ann"), [], ""))
-    site.act(sam, "bob", "replace", kind="")
-    site.start()
-    site.log_in("kim", sam)
-    told = sam.ask(place("bob", "secret")).secret(), "The new phone of" in sam.ask("/").page, len(left())
-    expect("another one of staff in the same browser", told, ("", False, 1))
-    site.log_in("sam", sam)
-    expect("then the first one again", sam.ask(place("bob", "secret")).secret(), secret_of("bob"))
-    sam.ask("/").send("/logout")
-    expect("log out", left(), [])
-    site.act(site.log_in(), "cid", "replace", kind="")
-    past = time.time() - 3601
-    os.utime(left()[0], (past, past))
-    site.start()
-    site.words.keeper.remove_old()
-    expect("after an hour", left(), [])
-
-
-def killed() -> None:
-    """The process is killed at each point of an act: what holds is told, and a secret that is in force is shown."""
-    site = Site()
-    for point, is_in, words in (("record.Record.write", False, None),
-                                ("book.Book.check", False, "hasn&#39;t the new row"),
-                                ("book.Book.set_mark", False, "hasn&#39;t the new row"),
-                                ("book.Book.copy", True, "has the new row")):
-        for name, act, fields in (("ann", "replace", {"kind": ""}), ("new", "enrol", {"name": "new", "kind": "hotp"})):
-            before, sam = secret_of(name), site.log_in()
-            path = "/enrol" if act == "enrol" else place(name, act)
-            sam.ask(path)
-            kill_at(point, lambda: sam.send(path, code=site.code(), **fields))
-            expect("%s at %s: the row" % (act, point), secret_of(name) != before, is_in)
-            site.start()
-            site.log_in(browser=sam)
-            page = sam.ask(place(name)).page
-            if words:
-                record = sam.ask("/record").page
-                expect("what is told", ("its end isn&#39;t known: the users file " + words in record,
-                                        words in page if act == "replace" or is_in else True), (True, True))
-            expect("the secret", sam.ask(place(name, "secret")).secret(), secret_of(name) if is_in else "")
-            if is_in:
-                sam.send(place(name, "seen"))
-                told = ['class="fault unfinished"' in text for text in (page, sam.ask(place(name)).page)]
-                expect("until the phone has it", told, [True, False])
-            Path("record").unlink()
-            site.start()
-            if is_in and act == "enrol":
-                site.log_in(browser=sam)
-                site.act(sam, "new", "retire")
-
-
-def kill_at(point: str, call: Any) -> None:
-    """Makes a call in which the process is killed at a function: at the second call of `check`, of which the first one
-    is for the try that writes nothing, and at the first call of another one."""
-    module, kind, name = ("wakdulg_helpdesk." + point).rsplit(".", 2)
-    real, calls = getattr(getattr(sys.modules[module], kind), name), [0]
+def kill_at(owner: type, name: str, call: Callable[[], object]) -> None:
+    """Makes a call in which the process is killed at a method: at the second call of `check`, of which the first one is
+    for the try that writes nothing, and at the first call of another one."""
+    real, calls = getattr(owner, name), [0]
 
     def kill(*words: Any, **more: Any) -> Any:
         calls[0] += 1
@@ -184,78 +109,11 @@ def kill_at(point: str, call: Any) -> None:
             raise Killed
         return real(*words, **more)
     try:
-        with mock.patch.object(getattr(sys.modules[module], kind), name, kill):
+        with mock.patch.object(owner, name, kill):
             call()
     except Killed:
         return
     raise AssertionError("not killed")
-
-
-def retire_killed() -> None:
-    """A retirement that is killed before and after the edit."""
-    site = Site()
-    for point, words in ("book.Book.set_mark", "still has the row"), ("book.Book.copy", "hasn&#39;t the row"):
-        sam = site.log_in()
-        sam.ask(place("bob", "retire"))
-        kill_at(point, lambda: sam.send(place("bob", "retire"), code=site.code()))
-        site.start()
-        site.log_in(browser=sam)
-        page = sam.ask(sam.ask(place("bob", "retired")).place or place("bob", "retired")).page
-        expect(point, "the users file " + words in page, True)
-
-
-def disk() -> None:
-    """A disk that is full: nothing is begun if the secret can't be kept, and it is shown if the record fails later."""
-    site = Site()
-    sam, before = site.log_in(), secret_of("ann")
-    with mock.patch("os.fsync", side_effect=OSError("no room")):
-        site.act(sam, "ann", "replace", kind="")
-    expect("nothing is begun", (sam.status, "could not be kept" in sam.alert(), secret_of("ann"), left()),
-           (503, True, before, []))
-    expect("nor noted", "begins" in outcomes(), False)
-    real = Record.write
-
-    def write(self: Record, who: str, act: str, user: str, outcome: str, *words: str, **more: str) -> str:
-        if outcome.startswith("replaced"):
-            raise OSError("no room")
-        return real(self, who, act, user, outcome, *words, **more)
-    with mock.patch.object(Record, "write", write):
-        site.act(sam, "ann", "replace", kind="")
-    expect("the secret is shown", sam.ask(place("ann", "secret")).secret(), secret_of("ann"))
-    site.start()
-    site.log_in(browser=sam)
-    expect("also after a restart", sam.ask(place("ann", "secret")).secret(), secret_of("ann"))
-    told = "its end isn&#39;t known: the users file has the new row" in sam.ask(place("ann")).page
-    expect("and the record tells", told, True)
-    with mock.patch("wakdulg_helpdesk.book.sync_folder"), mock.patch("wakdulg_onboard.users_file.sync_folder", side_effect=OSError("a fault")):
-        site.act(sam, "bob", "replace", kind="")
-    expect("a fault after the change", "The users file is changed" in sam.alert(), True)
-    expect("its secret", sam.ask(place("bob", "secret")).secret(), secret_of("bob"))
-
-
-def looks() -> None:
-    """The verdict stands first on a user's page, and the page Cluster has three lists."""
-    site = Site()
-    sam = site.log_in()
-    first = re.compile('<h1>[^<]*</h1>\\s*<p id="verdict"[^>]*class="verdict (\\w+)">([^<]*)')
-    expect("can", first.search(sam.ask(place("ann")).page).groups(), ("can", "Can log in."))
-    now = int(time.time())
-    site.members.told["ann"] = [State(number, "yes", True, 0, 1, now + 60 * number) for number in (2, 3)]
-    expect("locked", first.search(sam.ask(place("ann")).page)[1], "locked")
-    site.members.told["zoe"] = [State(1, "no", True), State(2, "another"), State(3, "another")]
-    expect("retired", first.search(sam.ask(place("zoe", "retired")).page)[1], "pending")
-    expect("a part of the page has it", 'data-word="locked"' in sam.ask(place("ann", "states")).page, True)
-    for member in site.members.all:
-        member.rows = {user.name: Row(0, user.token, int(user.name == b"bob"), user.name)
-                       for user in site.desk.book.users.values() if (member.number, user.text) != (2, "cid")}
-    site.members.all[2].shut = [Gate(b"ann", 3, now + 100), Gate(b"bob", 1, now - 1)]
-    page = sam.ask("/cluster").page
-    expect("the lists", [listed(page, name) for name in ("locked", "lacking", "unused")],
-           [["ann"], ["cid"], ["ann", "cid", "kim", "sam"]])
-    expect("with links", '<a href="%s">cid</a>' % place("cid") in page, True)
-    expect("the moment of the table", '<span id="moment">00:00:00 UTC</span>' in page, True)
-    expect("they are kept for some seconds", (sam.ask("/cluster/lists").status, site.members.all[0].read), (200, 1))
-    expect("without a session", Browser(site.application).ask("/cluster/lists").status, 401)
 
 
 def listed(page: str, name: str) -> list[str]:
@@ -264,287 +122,413 @@ def listed(page: str, name: str) -> list[str]:
     return re.findall('<a href="[^"]*">([^<]*)', part[1]) if part else []
 
 
-def roles() -> None:
-    """What each role may do. Whoever may not is refused before a code is asked for."""
-    Path("staff").write_text("".join("%s %s %s\n" % (name, HASH, role) for name, role in (
-        ("sam", "look"), ("kim", "unlock"), ("lou", "enrol"), ("max", "all"), ("old", ""))))
-    site, table = Site(), {"unlock": "kim lou max old", "resync": "kim lou max old", "replace": "lou max old",
-                           "retire": "lou max old", "enrol": "lou max old", "import": "max old"}
-    Path("users").write_text(rows_of("sam", "kim", "lou", "max", "old", "ann"))
-    for name in ("sam", "kim", "lou", "max", "old"):
-        browser = site.log_in(name)
-        page = browser.ask(place("ann")).page
-        for act, who in table.items():
-            path, may = "/" + act if act in ("enrol", "import") else place("ann", act), name in who.split()
-            expect("%s: the form of %s" % (name, act), browser.ask(path).status, 200 if may else 403)
-            linked = 'href="%s"' % path in (page if act not in ("enrol", "import") else browser.ask("/").page)
-            expect("and its link", linked, may)
-            asked = site.cluster.asked
-            if not may:
-                browser.ask("/record").send(path, code=site.code(name), seen="0", name="x", kind="hotp")
-                expect("a form that is sent", (browser.status, site.cluster.asked, outcomes()[0]),
-                       (403, asked, "refused: no right"))
-        expect("all look", [browser.ask(path).status for path in ("/", "/cluster", "/record", place("ann"))], [200] * 4)
-    site.act(site.log_in("lou"), "ann", "replace", "lou", kind="")
-    expect("lou replaces", outcomes()[0].startswith("replaced"), True)
+@unittest.skipUnless(HAS_ARGON2, "needs python3-argon2")
+class Case(OverSite):
+    def begin(self) -> None:
+        super().begin()
+        Path("staff").write_text("".join("%s %s\n" % (name, HASH) for name in STAFF))
+        Path("users").write_text(rows_of(*STAFF, *USERS))
 
 
-def staff_lines() -> None:
-    """The file of staff: roles, and what is refused at the start."""
-    for text, fault in (("sam %s\nkim %s look\n", ""), ("sam %s boss\nkim %s\n", "no role of look, unlock, enrol, all"),
-                        ("sam\n", "no password: make it by staff-line NAME"), ("sam abc all\n", "no password")):
-        Path("staff").write_text(text.replace("%s", HASH))
-        expect(fault or "right", fault in fault_of(lambda: check_staff("staff")), True)
-    Path("staff").write_text("sam %s boss\nkim %s unlock\n" % (HASH, HASH))
-    expect("a wrong role logs nobody in", (hashes_of("staff").keys(), names_of("staff")), ({"kim"}, {"sam", "kim"}))
-    Path("staff").write_text("sam %s\nkim %s enrol\n" % (HASH, HASH))
-    expect("two are needed", "fewer than 2" in fault_of(lambda: check_staff("staff", 2)), True)
-    for role, status in ("look", 0), ("all", 0), ("boss", 1):
-        words = [TOP / "python/wakdulg-staff-line", "zoe", role]
-        done = subprocess.run(words, input="a long password\n", capture_output=True, text=True)
-        expect("staff-line " + role, (done.returncode, done.stdout.endswith(" %s\n" % role)), (status, not status))
-
-
-def fault_of(call: Any) -> str:
-    try:
-        call()
-    except ValueError as fault:
-        return str(fault)
-    return ""
-
-
-def two() -> None:
-    """Two of staff replace a phone: one asks, another one confirms, and the first one has the secret."""
-    site, before = Site(two_of_staff=True), secret_of("ann")
-    sam, kim = site.log_in(), site.log_in("kim")
-    site.act(sam, "ann", "replace", kind="")
-    expect("nothing is done", (sam.place, secret_of("ann")), ("/waiting", before))
-    expect("and the record says so", outcomes()[0], "asks another one of staff")
-    page = " ".join(sam.ask(place("ann")).page.split())
-    expect("the first one sees that it waits", "asked for by sam. It waits for" in page, True)
-    expect("and no secret", sam.ask(place("ann", "secret")).secret(), "")
-    path = re.search('href="(/waiting/[^"]*)"', kim.ask("/waiting").page)[1]
-    expect("the first one has no form", "<button>Confirm" in sam.ask(path).page, False)
-    asked = site.cluster.asked
-    sam.send(path, code=site.code())
-    expect("and is refused", (sam.status, site.cluster.asked, secret_of("ann")), (403, asked, before))
-    kim.ask(path).send(path, code="999999")
-    expect("a wrong code", (kim.status, secret_of("ann")), (403, before))
-    sam = site.log_in(browser=sam)
-    kim.ask(path).send(path, code=site.code("kim"))
-    expect("confirmed", (kim.status, kim.place, secret_of("ann") != before), (303, place("ann"), True))
-    expect("the second one sees no secret", kim.ask(place("ann", "secret")).secret(), "")
-    expect("the first one does, also after a new login", sam.ask(place("ann", "secret")).secret(), secret_of("ann"))
-    last = next(Record("record").acts())
-    expect("the record has both", (last["who"], last["asked"], last["outcome"][:8]), ("kim", "sam", "replaced"))
-    expect("a second time", kim.send(path, code=site.code("kim")).status, 404)
-
-
-def two_enrol() -> None:
-    """To retire a user and to enrol the name again is a replacement: it takes two as well."""
-    site = Site(two_of_staff=True)
-    sam, kim = site.log_in(), site.log_in("kim")
-    sam.ask("/enrol").send("/enrol", name="new", kind="hotp", code=site.code())
-    expect("a new name", (sam.place, secret_of("new") is not None), (place("new", "secret"), True))
-    site.act(sam, "ann", "retire")
-    sam.ask("/enrol").send("/enrol", name="ann", kind="hotp", code=site.code())
-    expect("one who was retired", (sam.place, secret_of("ann")), ("/waiting", None))
-    path = re.search('href="(/waiting/[^"]*)"', kim.ask("/waiting").page)[1]
-    kim.ask(path).send(path, code=site.code("kim"))
-    expect("confirmed", (kim.status, sam.ask(place("ann", "secret")).secret()), (303, secret_of("ann")))
-
-
-def two_ends() -> None:
-    """What waits ends: after an hour, after a change of the row, with the right or the secret of the first one."""
-    for what, status in (("an hour", 404), ("another row", 409), ("no right", 403), ("logged out", 409),
-                         ("a restart", 404)):
-        begin(os.getcwd())
-        site = Site(two_of_staff=True)
-        sam, kim, before = site.log_in(), site.log_in("kim"), secret_of("ann")
-        site.act(sam, "ann", "replace", kind="")
-        path = re.search('href="(/waiting/[^"]*)"', kim.ask("/waiting").page)[1]
-        kim.ask(path)
-        with mock.patch("time.time", lambda: real() + 3601 * (what == "an hour")):
-            if what == "another row":
-                Path("users").write_text(Path("users").read_text().replace("%040x" % 3, "%040x" % 33))
-                before = secret_of("ann")
-            elif what == "no right":
-                Path("staff").write_text("sam %s unlock\nkim %s\n" % (HASH, HASH))
-            elif what == "logged out":
-                sam.ask("/").send("/logout")
-            elif what == "a restart":
-                site.start()
-                kim = site.log_in("kim", kim)
-            kim.ask("/waiting").send(path, code=site.code("kim"))
-        expect(what, (kim.status, secret_of("ann")), (status, before))
-
-
-def two_import() -> None:
-    """An import of two: the second one sees its rows."""
-    site, rows = Site(two_of_staff=True), "user,secret,type\nhal,%040x,HOTP\nida,%040x,TOTP\n" % (91, 92)
-    sam, kim = site.log_in(), site.log_in("kim")
-    sam.ask("/import").send("/import", file=(io.BytesIO(rows.encode()), "list.csv"), secrets="hex")
-    path = sam.place
-    sam.ask(path).send(path, code=site.code())
-    expect("asked for", (sam.place, secret_of("hal")), ("/waiting", None))
-    path = re.search('href="(/waiting/[^"]*)"', kim.ask("/waiting").page)[1]
-    expect("its rows", re.findall('scope="row">([^<]*)', kim.ask(path).page), ["hal", "ida"])
-    kim.send(path, code=site.code("kim"))
-    expect("confirmed", (kim.place, secret_of("hal") is not None, secret_of("ida") is not None), ("/", True, True))
-
-
-def limit() -> None:
-    """How many acts one of staff begins within an hour. A restart forgets none of them, and a refusal costs no code."""
-    site = Site(acts=3)
-    sam, kim = site.log_in(), site.log_in("kim")
-    for name in USERS:
-        site.act(sam, name, "unlock")
-    site.act(sam, "ann", "unlock")
-    asked = site.cluster.asked
-    site.act(sam, "ann", "unlock")
-    said = "You began 3 acts within an hour. The next one is" in sam.alert()
-    expect("the fourth", (sam.status, site.cluster.asked, said), (429, asked, True))
-    site.act(kim, "ann", "unlock", "kim")
-    expect("of another one", kim.status, 303)
-    site.start()
-    sam = site.log_in()
-    expect("after a restart", site.act(sam, "ann", "unlock").status, 429)
-    with mock.patch("time.time", lambda: real() + 3601):
-        expect("after an hour", site.act(sam, "ann", "unlock").status, 303)
-
-
-def records() -> None:
-    """The page Record: a filter by user, staff and act, and an export for a spreadsheet."""
-    Path("users").write_text(Path("users").read_text() + "HOTP =1+1 - %040x\n" % 77)
-    site = Site()
-    sam, kim = site.log_in(), site.log_in("kim")
-    for browser, who, user, act in ((sam, "sam", "ann", "unlock"), (kim, "kim", "ann", "retire"),
-                                    (sam, "sam", "bob", "unlock"), (kim, "kim", "=1+1", "unlock")):
-        site.act(browser, user, act, who)
-    for query, wanted in (("user=AN", ["kim retire ann", "sam unlock ann"]), ("who=sa&act=unlock", ["sam unlock bob",
-                          "sam unlock ann"]), ("act=retire&user=bob", []), ("who=kim&act=log+in", ["kim log in "])):
-        row = "<tr><td>[^<]*</td><td>([^<]*)</td><td>([^<]*)</td>\\s*<td>([^<]*)"
-        rows = re.findall(row, sam.ask("/record?" + query).page)
-        expect(query, [" ".join(row) for row in rows], wanted)
-        lines = list(csv.DictReader(io.StringIO(sam.ask("/record.csv?" + query).page)))
-        expect("exported", [" ".join((line["who"], line["act"], line["user"])) for line in lines], wanted)
-    lines = list(csv.DictReader(io.StringIO(sam.ask("/record.csv?user==1").page)))
-    expect("no formula", (lines[0]["user"], lines[0]["from"]), ("'=1+1", "192.0.2.9"))
-    expect("as a file", sam.head["Content-Disposition"], "attachment; filename=record.csv")
-    page = sam.ask("/record?user=an").page
-    expect("the export keeps the filter", 'href="/record.csv?user=an&amp;who=&amp;act="' in page, True)
-    expect("without a session", Browser(site.application).ask("/record.csv").status, 303)
-
-
-def free_faults() -> None:
-    """What can be refused without the cluster costs no code."""
-    site = Site()
-    sam = site.log_in()
-    asked = site.cluster.asked
-    cases = [("/enrol", {"name": "", "kind": "hotp"}, "NoName"), ("/enrol", {"name": "new"}, "BadType"),
-             ("/enrol", {"name": "n ew", "kind": "hotp"}, "BadName"),
-             ("/enrol", {"name": "ann", "kind": "totp"}, "DuplicateUser"),
-             ("/enrol", {"name": "kim", "kind": "totp"}, "Protected"),
-             ("/enrol", {"name": "x" * 65, "kind": "totp"}, "NameTooLong"),
-             (place("kim", "replace"), {"kind": ""}, "Protected"), (place("kim", "retire"), {}, "Protected"),
-             (place("ann", "replace"), {"kind": "other"}, "BadType"),
-             (place("ann", "resync"), {"first": "12", "second": "000002"}, "BadCode"),
-             (place("ann", "resync"), {"first": "000001", "second": "000001"}, "SameCode")]
-    for path, fields, fault in cases:
-        sam.ask(path).send(path, code=site.code(), **fields)
-        told = sam.status, fault in sam.alert(), "your code is good still" in sam.alert()
-        expect("%s: %s" % (path.rpartition("/")[2], fault), told, (409, True, True))
-    Path("users").write_text(Path("users").read_text() + "HOTP bad - 1\n")
-    site.act(sam, "ann", "retire")
-    expect("a users file with a fault", (sam.status, "refuses the new file" in sam.alert()), (409, True))
-    expect("no code was asked for, and nothing begun", (site.cluster.asked, "begins" in outcomes()), (asked, False))
-    sam.ask("/enrol").send("/enrol", name="n ew", kind="hotp")
-    kept = 'value="n ew"' in sam.page, 'value="hotp" checked' in sam.page
-    expect("the form keeps what was typed", kept, (True, True))
-
-
-def next_codes() -> None:
-    """A form says when the next code of a time token is shown."""
-    Path("users").write_text(Path("users").read_text().replace("HOTP sam", "HOTP/T30 sam"))
-    site = Site()
-    now = 1_800_000_007
-    with mock.patch("time.time", lambda: now):
-        site.cluster.factors["sam"] = now // 30
+class Secrets(Case):
+    def test_a_new_secret(self) -> None:
+        """A new secret is shown until staff say that the phone has it."""
+        site = Site()
         sam = site.log_in()
-        page = " ".join(sam.ask(place("ann", "unlock")).page.split())
-        expect("after a login", "The next one comes in 23 s, at 2027-01-15 08:00:30 UTC." in page, True)
-        now += 23
-        expect("later", "Your last code" in sam.ask(place("ann", "unlock")).page, False)
-        site.cluster.factors["sam"] = now // 30 + 1
-        site.act(sam, "ann", "unlock")
-        page = " ".join(sam.ask("/enrol").page.split())
-        expect("after an act, of a phone that is ahead", "comes in 60 s" in page, True)
+        site.act(sam, "ann", "replace", kind="")
+        self.assertEqual(sam.place, place("ann", "secret"), "where it is shown")
+        self.assertEqual([sam.ask(place("ann", "secret")).secret() for _ in range(2)], [secret_of("ann")] * 2,
+                         "the row's")
+        self.assertIn(place("ann", "secret"), sam.ask("/").page, "each page leads there")
+        data = b"".join(Path(each).read_bytes() for each in left())
+        raw = base64.b32decode(secret_of("ann"))
+        self.assertEqual((raw in data, secret_of("ann").encode() in data, len(left())), (False, False, 1),
+                         "the file doesn't show it")
+        self.assertEqual(os.stat(left()[0]).st_mode & 0o777, 0o600, "its mode")
         kim = site.log_in("kim")
-        expect("a device that counts", "Your last code" in kim.ask("/enrol").page, False)
+        self.assertEqual(kim.ask(place("ann", "secret")).secret(), "", "another one of staff doesn't see it")
+        other = site.log_in()
+        self.assertEqual(other.ask(place("ann", "secret")).secret(), "", "nor the same one in another browser")
+        sam.ask(place("ann", "secret")).send(place("ann", "seen"))
+        self.assertEqual((sam.place, left(), sam.ask(place("ann", "secret")).secret()), (place("ann"), [], ""),
+                         "confirmed")
+        site.act(sam, "bob", "replace", kind="")
+        site.start()
+        site.log_in("kim", sam)
+        told = sam.ask(place("bob", "secret")).secret(), "The new phone of" in sam.ask("/").page, len(left())
+        self.assertEqual(told, ("", False, 1), "another one of staff in the same browser")
+        site.log_in("sam", sam)
+        self.assertEqual(sam.ask(place("bob", "secret")).secret(), secret_of("bob"), "then the first one again")
+        sam.ask("/").send("/logout")
+        self.assertEqual(left(), [], "log out")
+        site.act(site.log_in(), "cid", "replace", kind="")
+        past = time.time() - 3601
+        os.utime(left()[0], (past, past))
+        site.start()
+        site.words.keeper.remove_old()
+        self.assertEqual(left(), [], "after an hour")
+
+    def test_a_killed_act(self) -> None:
+        """The process is killed at each point of an act: what holds is told, and a secret that is in force is shown."""
+        site = Site()
+        points: list[tuple[type, str, bool, str]] = [
+            (Record, "write", False, ""), (Book, "check", False, "hasn&#39;t the new row"),
+            (Book, "set_mark", False, "hasn&#39;t the new row"), (Book, "copy", True, "has the new row")]
+        for owner, point, is_in, words in points:
+            for name, act, fields in (("ann", "replace", {"kind": ""}),
+                                      ("new", "enrol", {"name": "new", "kind": "hotp"})):
+                before, sam = secret_of(name), site.log_in()
+                path = "/enrol" if act == "enrol" else place(name, act)
+                sam.ask(path)
+                kill_at(owner, point, lambda: sam.send(path, code=site.code(), **fields))
+                self.assertEqual(secret_of(name) != before, is_in, "%s at %s: the row" % (act, point))
+                site.start()
+                site.log_in(browser=sam)
+                page = sam.ask(place(name)).page
+                if words:
+                    self.assertIn("its end isn&#39;t known: the users file " + words, sam.ask("/record").page)
+                if words and (is_in or act == "replace"):
+                    self.assertIn(words, page)
+                self.assertEqual(sam.ask(place(name, "secret")).secret(), secret_of(name) if is_in else "",
+                                 "the secret")
+                if is_in:
+                    sam.send(place(name, "seen"))
+                    told = ['class="fault unfinished"' in text for text in (page, sam.ask(place(name)).page)]
+                    self.assertEqual(told, [True, False], "until the phone has it")
+                Path("record").unlink()
+                site.start()
+                if is_in and act == "enrol":
+                    site.log_in(browser=sam)
+                    site.act(sam, "new", "retire")
+
+    def test_a_killed_retirement(self) -> None:
+        """A retirement that is killed before and after the edit."""
+        site = Site()
+        for point, words in ("set_mark", "still has the row"), ("copy", "hasn&#39;t the row"):
+            sam = site.log_in()
+            sam.ask(place("bob", "retire"))
+            kill_at(Book, point, lambda: sam.send(place("bob", "retire"), code=site.code()))
+            site.start()
+            site.log_in(browser=sam)
+            page = sam.ask(sam.ask(place("bob", "retired")).place or place("bob", "retired")).page
+            self.assertIn("the users file " + words, page, point)
+
+    def test_a_full_disk(self) -> None:
+        """If a secret can't be kept on the disk, nothing is begun. It is shown if the record fails later."""
+        site = Site()
+        sam, before = site.log_in(), secret_of("ann")
+        with mock.patch("os.fsync", side_effect=OSError("no room")):
+            site.act(sam, "ann", "replace", kind="")
+        self.assertEqual((sam.status, "could not be kept" in sam.alert(), secret_of("ann"), left()),
+                         (503, True, before, []), "nothing is begun")
+        self.assertNotIn("begins", outcomes(), "nor noted")
+        real = Record.write
+
+        def write(self: Record, who: str, act: str, user: str, outcome: str, *words: str, **more: str) -> str:
+            if outcome.startswith("replaced"):
+                raise OSError("no room")
+            return real(self, who, act, user, outcome, *words, **more)
+        with mock.patch.object(Record, "write", write):
+            site.act(sam, "ann", "replace", kind="")
+        self.assertEqual(sam.ask(place("ann", "secret")).secret(), secret_of("ann"), "the secret is shown")
+        site.start()
+        site.log_in(browser=sam)
+        self.assertEqual(sam.ask(place("ann", "secret")).secret(), secret_of("ann"), "also after a restart")
+        told = "its end isn&#39;t known: the users file has the new row" in sam.ask(place("ann")).page
+        self.assertTrue(told, "and the record tells")
+        fault = mock.patch("wakdulg_onboard.users_file.sync_folder", side_effect=OSError("a fault"))
+        with mock.patch("wakdulg_helpdesk.book.sync_folder"), fault:
+            site.act(sam, "bob", "replace", kind="")
+        self.assertIn("The users file is changed", sam.alert(), "a fault after the change")
+        self.assertEqual(sam.ask(place("bob", "secret")).secret(), secret_of("bob"), "its secret")
 
 
-def deep_links() -> None:
-    """A login leads to the page that was asked for, and to no other site."""
-    site = Site()
-    for path in place("ann"), place("ann", "unlock"), "/record?user=an&act=unlock", "/?q=%C3%A4b":
-        browser = Browser(site.application).ask(path)
-        expect("from " + path, browser.place.startswith("/login?next="), True)
-        browser.ask(browser.place).send("/login", user="sam", password="wrong", code="0")
-        browser.send("/login", user="sam", password=PASSWORD, code=site.code())
-        expect("also after a wrong password", browser.place, path)
-    expect("from the start", Browser(site.application).ask("/").place, "/login")
-    for path in ("//evil.example", "https://evil.example/", "/\\evil.example", "/\t/evil.example", "\\evil",
-                 "javascript:alert(1)", "/%0d%0aSet-Cookie:x=y", "/x\r\nSet-Cookie: x=y", "evil.example", "///evil.example",
-                 "/.//evil.example", "/@evil", "/" + "a" * 1000, "/users/<b>", "http:evil"):
-        browser = Browser(site.application).ask("/login")
-        browser.send("/login", user="sam", password=PASSWORD, code=site.code(), next=path)
-        where = urlsplit(urljoin(fakes.ORIGIN + "/login", browser.place))
-        expect(repr(path[:30]), (browser.status, where.scheme, where.netloc, browser.place in ("/", path)),
-               (303, "https", "helpdesk.example", True))
-    told = Browser(site.application).ask("/login?next=//evil.example").page
-    expect("no form leads elsewhere", "evil" in told, False)
+class Staff(Case):
+    def test_roles(self) -> None:
+        """What each role may do. Whoever may not is refused before a code is asked for."""
+        Path("staff").write_text("".join("%s %s %s\n" % (name, HASH, role) for name, role in (
+            ("sam", "look"), ("kim", "unlock"), ("lou", "enrol"), ("max", "all"), ("old", ""))))
+        site, table = Site(), {"unlock": "kim lou max old", "resync": "kim lou max old", "replace": "lou max old",
+                               "retire": "lou max old", "enrol": "lou max old", "import": "max old"}
+        Path("users").write_text(rows_of("sam", "kim", "lou", "max", "old", "ann"))
+        for name in ("sam", "kim", "lou", "max", "old"):
+            browser = site.log_in(name)
+            page = browser.ask(place("ann")).page
+            for act, who in table.items():
+                path, may = "/" + act if act in ("enrol", "import") else place("ann", act), name in who.split()
+                self.assertEqual(browser.ask(path).status, 200 if may else 403, "%s: the form of %s" % (name, act))
+                linked = 'href="%s"' % path in (page if act not in ("enrol", "import") else browser.ask("/").page)
+                self.assertEqual(linked, may, "and its link")
+                asked = site.cluster.asked
+                if not may:
+                    browser.ask("/record").send(path, code=site.code(name), seen="0", name="x", kind="hotp")
+                    self.assertEqual((browser.status, site.cluster.asked, outcomes()[0]),
+                                     (403, asked, "refused: no right"), "a form that is sent")
+            self.assertEqual([browser.ask(path).status for path in ("/", "/cluster", "/record", place("ann"))],
+                             [200] * 4, "all look")
+        site.act(site.log_in("lou"), "ann", "replace", "lou", kind="")
+        self.assertTrue(outcomes()[0].startswith("replaced"), "lou replaces")
+
+    def test_the_file_of_staff(self) -> None:
+        """The file of staff: roles, and what is refused at the start."""
+        Path("staff").write_text("sam %s\nkim %s look\n" % (HASH, HASH))
+        check_staff("staff")
+        for text, fault in (("sam %s boss\nkim %s\n", "no role of look, unlock, enrol, all"),
+                            ("sam\n", "no password: make it by staff-line NAME"), ("sam abc all\n", "no password")):
+            Path("staff").write_text(text.replace("%s", HASH))
+            with self.assertRaisesRegex(ValueError, fault):
+                check_staff("staff")
+        Path("staff").write_text("sam %s boss\nkim %s unlock\n" % (HASH, HASH))
+        self.assertEqual((hashes_of("staff").keys(), names_of("staff")), ({"kim"}, {"sam", "kim"}),
+                         "a wrong role logs nobody in")
+        Path("staff").write_text("sam %s\nkim %s enrol\n" % (HASH, HASH))
+        with self.assertRaisesRegex(ValueError, "fewer than 2"):
+            check_staff("staff", 2)
+
+    def test_two_of_staff(self) -> None:
+        """Two of staff replace a phone: one asks, another one confirms, and the first one has the secret."""
+        site, before = Site(two_of_staff=True), secret_of("ann")
+        sam, kim = site.log_in(), site.log_in("kim")
+        site.act(sam, "ann", "replace", kind="")
+        self.assertEqual((sam.place, secret_of("ann")), ("/waiting", before), "nothing is done")
+        self.assertEqual(outcomes()[0], "asks another one of staff", "and the record says so")
+        self.assertIn("asked for by sam. It waits for", sam.ask(place("ann")).text())
+        self.assertEqual(sam.ask(place("ann", "secret")).secret(), "", "and no secret")
+        path = kim.ask("/waiting").find(WAITING)
+        self.assertNotIn("<button>Confirm", sam.ask(path).page, "the first one has no form")
+        asked = site.cluster.asked
+        sam.send(path, code=site.code())
+        self.assertEqual((sam.status, site.cluster.asked, secret_of("ann")), (403, asked, before), "and is refused")
+        kim.ask(path).send(path, code="999999")
+        self.assertEqual((kim.status, secret_of("ann")), (403, before), "a wrong code")
+        sam = site.log_in(browser=sam)
+        kim.ask(path).send(path, code=site.code("kim"))
+        self.assertEqual((kim.status, kim.place, secret_of("ann") != before), (303, place("ann"), True), "confirmed")
+        self.assertEqual(kim.ask(place("ann", "secret")).secret(), "", "the second one sees no secret")
+        self.assertEqual(sam.ask(place("ann", "secret")).secret(), secret_of("ann"),
+                         "the first one does, also after a new login")
+        last = next(Record("record").acts())
+        self.assertEqual((last["who"], last["asked"], last["outcome"][:8]), ("kim", "sam", "replaced"),
+                         "the record has both")
+        self.assertEqual(kim.send(path, code=site.code("kim")).status, 404, "a second time")
+
+    def test_a_retired_name_takes_two(self) -> None:
+        """To retire a user and to enrol the name again is a replacement: it takes two as well."""
+        site = Site(two_of_staff=True)
+        sam, kim = site.log_in(), site.log_in("kim")
+        sam.ask("/enrol").send("/enrol", name="new", kind="hotp", code=site.code())
+        self.assertEqual((sam.place, secret_of("new") != ""), (place("new", "secret"), True), "a new name")
+        site.act(sam, "ann", "retire")
+        sam.ask("/enrol").send("/enrol", name="ann", kind="hotp", code=site.code())
+        self.assertEqual((sam.place, secret_of("ann")), ("/waiting", ""), "one who was retired")
+        path = kim.ask("/waiting").find(WAITING)
+        kim.ask(path).send(path, code=site.code("kim"))
+        self.assertEqual((kim.status, sam.ask(place("ann", "secret")).secret()), (303, secret_of("ann")), "confirmed")
+
+    def test_what_waits_ends(self) -> None:
+        """What waits ends: after an hour, after a change of the row, with the right or the secret of the first one."""
+        for what, status in (("an hour", 404), ("another row", 409), ("no right", 403), ("logged out", 409),
+                             ("a restart", 404)):
+            self.begin()
+            site = Site(two_of_staff=True)
+            sam, kim, before = site.log_in(), site.log_in("kim"), secret_of("ann")
+            site.act(sam, "ann", "replace", kind="")
+            path = kim.ask("/waiting").find(WAITING)
+            kim.ask(path)
+            with mock.patch("time.time", lambda: real_time() + 3601 * (what == "an hour")):
+                if what == "another row":
+                    Path("users").write_text(Path("users").read_text().replace("%040x" % 3, "%040x" % 33))
+                    before = secret_of("ann")
+                elif what == "no right":
+                    Path("staff").write_text("sam %s unlock\nkim %s\n" % (HASH, HASH))
+                elif what == "logged out":
+                    sam.ask("/").send("/logout")
+                elif what == "a restart":
+                    site.start()
+                    kim = site.log_in("kim", kim)
+                kim.ask("/waiting").send(path, code=site.code("kim"))
+            self.assertEqual((kim.status, secret_of("ann")), (status, before), what)
+
+    def test_an_import_of_two(self) -> None:
+        """An import of two: the second one sees its rows."""
+        site, rows = Site(two_of_staff=True), "user,secret,type\nhal,%040x,HOTP\nida,%040x,TOTP\n" % (91, 92)
+        sam, kim = site.log_in(), site.log_in("kim")
+        sam.ask("/import").send("/import", file=(io.BytesIO(rows.encode()), "list.csv"), secrets="hex")
+        path = sam.place
+        sam.ask(path).send(path, code=site.code())
+        self.assertEqual((sam.place, secret_of("hal")), ("/waiting", ""), "asked for")
+        path = kim.ask("/waiting").find(WAITING)
+        self.assertEqual(re.findall('scope="row">([^<]*)', kim.ask(path).page), ["hal", "ida"], "its rows")
+        kim.send(path, code=site.code("kim"))
+        self.assertEqual((kim.place, secret_of("hal") != "", secret_of("ida") != ""), ("/", True, True), "confirmed")
+
+    def test_acts_an_hour(self) -> None:
+        """How many acts one of staff begins within an hour. A restart forgets none, and a refusal costs no code."""
+        site = Site(acts=3)
+        sam, kim = site.log_in(), site.log_in("kim")
+        for name in USERS:
+            site.act(sam, name, "unlock")
+        site.act(sam, "ann", "unlock")
+        asked = site.cluster.asked
+        site.act(sam, "ann", "unlock")
+        said = "You began 3 acts within an hour. The next one is" in sam.alert()
+        self.assertEqual((sam.status, site.cluster.asked, said), (429, asked, True), "the fourth")
+        site.act(kim, "ann", "unlock", "kim")
+        self.assertEqual(kim.status, 303, "of another one")
+        site.start()
+        sam = site.log_in()
+        self.assertEqual(site.act(sam, "ann", "unlock").status, 429, "after a restart")
+        with mock.patch("time.time", lambda: real_time() + 3601):
+            self.assertEqual(site.act(sam, "ann", "unlock").status, 303, "after an hour")
 
 
-def refused_logins() -> None:
-    """Failed logins are in the record: by the names of staff alone."""
-    site = Site()
-    browser = Browser(site.application)
-    for user, password, code in (("sam", "wrong", "000000"), ("sam", PASSWORD, "999999"),
-                                 ("my own password", "x", "0")):
-        browser.ask("/login").send("/login", user=user, password=password, code=code)
-    told = [(line["who"], line["act"], line["outcome"], line["from"]) for line in Record("record").acts()]
-    expect("each", told, [(who, "log in", "refused: " + why, "192.0.2.9") for who, why in (
-        ("", "not staff"), ("sam", "INVALID"), ("sam", "not a password"))])
-    expect("no name that may be a password", "my own" in Path("record").read_text(), False)
+class Logins(Case):
+    def test_the_next_code(self) -> None:
+        """A form says when the next code of a time token is shown."""
+        Path("users").write_text(Path("users").read_text().replace("HOTP sam", "HOTP/T30 sam"))
+        site = Site()
+        now = 1_800_000_007
+        with mock.patch("time.time", lambda: now):
+            site.cluster.factors["sam"] = now // 30
+            sam = site.log_in()
+            self.assertIn("The next one comes in 23 s, at 2027-01-15 08:00:30 UTC.",
+                          sam.ask(place("ann", "unlock")).text(), "after a login")
+            now += 23
+            self.assertNotIn("Your last code", sam.ask(place("ann", "unlock")).page, "later")
+            site.cluster.factors["sam"] = now // 30 + 1
+            site.act(sam, "ann", "unlock")
+            self.assertIn("comes in 60 s", sam.ask("/enrol").text(), "after an act, of a phone that is ahead")
+            kim = site.log_in("kim")
+            self.assertNotIn("Your last code", kim.ask("/enrol").page, "a device that counts")
+
+    def test_deep_links(self) -> None:
+        """A login leads to the page that was asked for, and to no other site."""
+        site = Site()
+        for path in place("ann"), place("ann", "unlock"), "/record?user=an&act=unlock", "/?q=%C3%A4b":
+            browser = Browser(site.application).ask(path)
+            self.assertTrue(browser.place.startswith("/login?next="), "from " + path)
+            browser.ask(browser.place).send("/login", user="sam", password="wrong", code="0")
+            browser.send("/login", user="sam", password=PASSWORD, code=site.code())
+            self.assertEqual(browser.place, path, "also after a wrong password")
+        self.assertEqual(Browser(site.application).ask("/").place, "/login", "from the start")
+        for path in ("//evil.example", "https://evil.example/", "/\\evil.example", "/\t/evil.example", "\\evil",
+                     "javascript:alert(1)", "/%0d%0aSet-Cookie:x=y", "/x\r\nSet-Cookie: x=y", "evil.example",
+                     "///evil.example", "/.//evil.example", "/@evil", "/" + "a" * 1000, "/users/<b>", "http:evil"):
+            browser = Browser(site.application).ask("/login")
+            browser.send("/login", user="sam", password=PASSWORD, code=site.code(), next=path)
+            where = urlsplit(urljoin(ORIGIN + "/login", browser.place))
+            self.assertEqual((browser.status, where.scheme, where.netloc, browser.place in ("/", path)),
+                             (303, "https", "helpdesk.example", True), repr(path[:30]))
+        told = Browser(site.application).ask("/login?next=//evil.example").page
+        self.assertNotIn("evil", told, "no form leads elsewhere")
+
+    def test_refused_logins(self) -> None:
+        """Failed logins are in the record: by the names of staff alone."""
+        site = Site()
+        browser = Browser(site.application)
+        for user, password, code in (("sam", "wrong", "000000"), ("sam", PASSWORD, "999999"),
+                                     ("my own password", "x", "0")):
+            browser.ask("/login").send("/login", user=user, password=password, code=code)
+        told = [(line["who"], line["act"], line["outcome"], line["from"]) for line in Record("record").acts()]
+        wanted = [("", "not staff"), ("sam", "INVALID"), ("sam", "not a password")]
+        self.assertEqual(told, [(who, "log in", "refused: " + why, "192.0.2.9") for who, why in wanted])
+        self.assertNotIn("my own", Path("record").read_text(), "no name that may be a password")
 
 
-def chained() -> None:
-    """All that the other parts wrote follows."""
-    site = Site()
-    sam = site.log_in()
-    site.act(sam, "ann", "unlock")
-    site.act(sam, "ann", "retire")
-    expect("the record", (check("record").fault, outcomes()[0].startswith("retired")), ("", True))
-    page = sam.ask("/record").page
-    expect("one row an act", page.count("<td>retire</td>"), 1)
+class Pages(Case):
+    def test_the_verdict_and_the_lists(self) -> None:
+        """The verdict stands first on a user's page, and the page Cluster has three lists."""
+        site = Site()
+        sam = site.log_in()
+        first = r'<h1>[^<]*</h1>\s*<p id="verdict"[^>]*class="verdict (\w+">[^<]*)'
+        self.assertEqual(sam.ask(place("ann")).find(first), 'can">Can log in.')
+        now = int(time.time())
+        site.members.told["ann"] = [State(number, "yes", True, 0, 1, now + 60 * number) for number in (2, 3)]
+        self.assertTrue(sam.ask(place("ann")).find(first).startswith('locked">'))
+        site.members.told["zoe"] = [State(1, "no", True), State(2, "another"), State(3, "another")]
+        self.assertTrue(sam.ask(place("zoe", "retired")).find(first).startswith('pending">'))
+        self.assertIn('data-word="locked"', sam.ask(place("ann", "states")).page, "a part of the page has it")
+        for member in site.members.all:
+            member.rows = {user.name: Row(0, user.token, int(user.name == b"bob"), user.name)
+                           for user in site.desk.book.users.values() if (member.number, user.text) != (2, "cid")}
+        site.members.all[2].shut = [Gate(b"ann", 3, now + 100), Gate(b"bob", 1, now - 1)]
+        page = sam.ask("/cluster").page
+        self.assertEqual([listed(page, name) for name in ("locked", "lacking", "unused")],
+                         [["ann"], ["cid"], ["ann", "cid", "kim", "sam"]], "the lists")
+        self.assertIn('<a href="%s">cid</a>' % place("cid"), page, "with links")
+        self.assertIn('<span id="moment">00:00:00 UTC</span>', page, "the moment of the table")
+        self.assertEqual((sam.ask("/cluster/lists").status, site.members.all[0].read), (200, 1),
+                         "they are kept for some seconds")
+        self.assertEqual(Browser(site.application).ask("/cluster/lists").status, 401, "without a session")
 
+    def test_the_page_record(self) -> None:
+        """The page Record: a filter by user, staff and act, and an export for a spreadsheet."""
+        Path("users").write_text(Path("users").read_text() + "HOTP =1+1 - %040x\n" % 77)
+        site = Site()
+        sam, kim = site.log_in(), site.log_in("kim")
+        for browser, who, user, act in ((sam, "sam", "ann", "unlock"), (kim, "kim", "ann", "retire"),
+                                        (sam, "sam", "bob", "unlock"), (kim, "kim", "=1+1", "unlock")):
+            site.act(browser, user, act, who)
+        for query, wanted in (("user=AN", ["kim retire ann", "sam unlock ann"]),
+                              ("who=sa&act=unlock", ["sam unlock bob", "sam unlock ann"]),
+                              ("act=retire&user=bob", []), ("who=kim&act=log+in", ["kim log in "])):
+            row = "<tr><td>[^<]*</td><td>([^<]*)</td><td>([^<]*)</td>\\s*<td>([^<]*)"
+            rows = re.findall(row, sam.ask("/record?" + query).page)
+            self.assertEqual([" ".join(row) for row in rows], wanted, query)
+            lines = list(csv.DictReader(io.StringIO(sam.ask("/record.csv?" + query).page)))
+            self.assertEqual([" ".join((line["who"], line["act"], line["user"])) for line in lines], wanted, "exported")
+        lines = list(csv.DictReader(io.StringIO(sam.ask("/record.csv?user==1").page)))
+        self.assertEqual((lines[0]["user"], lines[0]["from"]), ("'=1+1", "192.0.2.9"), "no formula")
+        self.assertEqual(sam.head["Content-Disposition"], "attachment; filename=record.csv", "as a file")
+        page = sam.ask("/record?user=an").page
+        self.assertIn('href="/record.csv?user=an&amp;who=&amp;act="', page, "the export keeps the filter")
+        self.assertEqual(Browser(site.application).ask("/record.csv").status, 303, "without a session")
 
-PARTS = [shown, killed, retire_killed, disk, looks, roles, staff_lines, two, two_enrol, two_ends, two_import, limit,
-         records, free_faults, next_codes, deep_links, refused_logins, chained]
-HASH = HASHER.hash(PASSWORD)
+    def test_faults_that_cost_no_code(self) -> None:
+        """What can be refused without the cluster costs no code."""
+        site = Site()
+        sam = site.log_in()
+        asked = site.cluster.asked
+        cases = [("/enrol", {"name": "", "kind": "hotp"}, "NoName"), ("/enrol", {"name": "new"}, "BadType"),
+                 ("/enrol", {"name": "n ew", "kind": "hotp"}, "BadName"),
+                 ("/enrol", {"name": "ann", "kind": "totp"}, "DuplicateUser"),
+                 ("/enrol", {"name": "kim", "kind": "totp"}, "Protected"),
+                 ("/enrol", {"name": "x" * 65, "kind": "totp"}, "NameTooLong"),
+                 (place("kim", "replace"), {"kind": ""}, "Protected"), (place("kim", "retire"), {}, "Protected"),
+                 (place("ann", "replace"), {"kind": "other"}, "BadType"),
+                 (place("ann", "resync"), {"first": "12", "second": "000002"}, "BadCode"),
+                 (place("ann", "resync"), {"first": "000001", "second": "000001"}, "SameCode")]
+        for path, fields, fault in cases:
+            sam.ask(path).send(path, code=site.code(), **fields)
+            told = sam.status, fault in sam.alert(), "your code is good still" in sam.alert()
+            self.assertEqual(told, (409, True, True), "%s: %s" % (path.rpartition("/")[2], fault))
+        Path("users").write_text(Path("users").read_text() + "HOTP bad - 1\n")
+        site.act(sam, "ann", "retire")
+        self.assertEqual((sam.status, "refuses the new file" in sam.alert()), (409, True), "a users file with a fault")
+        self.assertEqual((site.cluster.asked, "begins" in outcomes()), (asked, False),
+                         "no code was asked for, and nothing begun")
+        sam.ask("/enrol").send("/enrol", name="n ew", kind="hotp")
+        kept = 'value="n ew"' in sam.page, 'value="hotp" checked' in sam.page
+        self.assertEqual(kept, (True, True), "the form keeps what was typed")
 
+    def test_the_record_of_acts(self) -> None:
+        """The lines of acts follow each other, and the page has each act once."""
+        site = Site()
+        sam = site.log_in()
+        site.act(sam, "ann", "unlock")
+        site.act(sam, "ann", "retire")
+        self.assertEqual((check("record").fault, outcomes()[0].startswith("retired")), ("", True), "the record")
+        page = sam.ask("/record").page
+        self.assertEqual(page.count("<td>retire</td>"), 1, "one row an act")
 
-def main() -> bool:
-    fakes.without_pauses()
-    with tempfile.TemporaryDirectory() as folder:
-        for part in PARTS:
-            if part.__name__ in sys.argv[1:] or not sys.argv[1:]:
-                print("%s: %s" % (part.__name__, part.__doc__), flush=True)
-                begin(folder)
-                part()
-        os.chdir("/")
-    return last_line()
+    def test_uploads(self) -> None:
+        """A file of an import stays in memory, however long it is."""
+        site: Any = SimpleNamespace(name="trial", templates=[])
+        application, data = web.make_application(site, []), b"x" * 1_900_000
+        with mock.patch.multiple("tempfile", SpooledTemporaryFile=None, TemporaryFile=None, NamedTemporaryFile=None):
+            with application.test_request_context(method="POST", data={"file": (io.BytesIO(data), "list.csv")}):
+                self.assertTrue(flask.request.files["file"].read() == data)
 
 
 if __name__ == "__main__":
-    sys.exit(main())
+    unittest.main()

@@ -1,19 +1,16 @@
 #!/usr/bin/python3
-"""Tries what pages say of a user and of all users, by tables of cases: test_verdict.py
-
-The last line counts. No program is needed.
-"""
+"""Tries what pages say of a user and of all users, by tables of cases."""
 from __future__ import annotations
 
 import sys
+import unittest
 from itertools import product
 from pathlib import Path
 
 sys.dont_write_bytecode = True
 sys.path.insert(1, str(Path(__file__).resolve().parents[2] / "tools"))
-from checkout import TOP
+import checkout
 from wakdulg_helpdesk.book import User
-from counting import expect, last_line
 from wakdulg_helpdesk.everybody import locked_now, never_used, not_in_place
 from wakdulg_helpdesk.members import Gate, Row, State
 from wakdulg_helpdesk.verdict import lasting, verdict
@@ -112,70 +109,62 @@ CASES = [
 ]
 
 
-def table() -> None:
-    """Each case of the table."""
-    for user, states, word, text in CASES:
-        found = verdict(user, states, NOW)
-        expect(text, (found.word, found.text), (word, text))
+class Verdicts(unittest.TestCase):
+    def test_the_table(self) -> None:
+        """Each case of the table."""
+        for user, states, word, text in CASES:
+            found = verdict(user, states, NOW)
+            self.assertEqual((found.word, found.text), (word, text), text)
 
+    def test_all_states(self) -> None:
+        """No mixture of one to five members raises a fault, and the word is right by what members do."""
+        wrong = count = 0
+        for size in range(1, 6):
+            for forms in product((yes, other, no, silent), repeat=size):
+                states = [form(number) for number, form in enumerate(forms, 1)]
+                most, word = size // 2 + 1, verdict(EVENT, states, NOW).word
+                heard, done = size - forms.count(silent), forms.count(yes)
+                wanted = "unseen" if heard < most else "can" if done >= most else "pending"
+                wrong, count = wrong + (word != wanted), count + 1
+        self.assertEqual(wrong, 0, "%d mixtures" % count)
+        wrong = 0
+        for size in range(1, 6):
+            for forms in product((gone, other, silent), repeat=size):
+                states = [form(number) for number, form in enumerate(forms, 1)]
+                most, word = size // 2 + 1, verdict(GONE, states, NOW).word
+                may = forms.count(other) > 0 and forms.count(other) + forms.count(silent) >= most
+                wanted = "unseen" if size - forms.count(silent) < most else "pending" if may else "retired"
+                wrong += word != wanted
+        self.assertEqual(wrong, 0, "of a user without a row")
 
-def all_states() -> None:
-    """No mixture of one to five members raises a fault, and the word is right by what members do."""
-    wrong = count = 0
-    for size in range(1, 6):
-        for forms in product((yes, other, no, silent), repeat=size):
-            states = [form(number) for number, form in enumerate(forms, 1)]
-            most, word = size // 2 + 1, verdict(EVENT, states, NOW).word
-            heard, done = size - forms.count(silent), forms.count(yes)
-            wanted = "unseen" if heard < most else "can" if done >= most else "pending"
-            wrong, count = wrong + (word != wanted), count + 1
-    expect("%d mixtures" % count, wrong, 0)
-    wrong = 0
-    for size in range(1, 6):
-        for forms in product((gone, other, silent), repeat=size):
-            states = [form(number) for number, form in enumerate(forms, 1)]
-            most, word = size // 2 + 1, verdict(GONE, states, NOW).word
-            may = forms.count(other) > 0 and forms.count(other) + forms.count(silent) >= most
-            wanted = "unseen" if size - forms.count(silent) < most else "pending" if may else "retired"
-            wrong += word != wanted
-    expect("of a user without a row", wrong, 0)
+    def test_everybody(self) -> None:
+        """Who is locked, whose row isn't in place, and who never logged in, of what three members told."""
+        gates = {1: [Gate(b"bob", 2, NOW + 9), Gate(b"ann", 1, NOW)],
+                 3: [Gate(b"bob", 1, NOW + 5), Gate(b"cid", 4, NOW + 60)]}
+        self.assertEqual(locked_now(gates, NOW), [("bob", "members 1, 3, opens in 5 s, 2 failures in a row"),
+                                                  ("cid", "member 3, opens in 60 s, 4 failures in a row")])
+        counters = {b"a": 0, b"b": 0, b"c": 7}
+        users = {name: User(name, "HOTP/E/6", token=name * 2, begin=begin) for name, begin in counters.items()}
+        users[b"t"] = User(b"t", "HOTP/T30/6", token=b"tt")
+        here = {name: Row(0, user.token or b"", user.begin, name) for name, user in users.items()}
+        self.assertEqual(not_in_place(users, {1: here, 2: here, 3: here}), [])
+        old, gone = {**here, b"b": Row(1, b"old", 0, b"b")}, {**here, b"z": Row(9, b"zz", 3, b"z")}
+        lack = {name: row for name, row in here.items() if name != b"a"}
+        rosters = {1: old, 2: gone, 3: {**lack, b"b": Row(1, b"old", 0, b"b")}}
+        self.assertEqual(not_in_place(users, rosters), [("a", "not at member 3"), ("b", "not at members 1, 3"),
+                                                        ("z", "retired, and still at member 2")])
+        used = {**here, b"a": here[b"a"]._replace(floor=1)}
+        kind = users[b"a"].kind()
+        for rosters, names in (({1: here, 2: here, 3: here}, "abc"), ({1: here, 2: here}, "abc"), ({1: here}, ""),
+                               ({1: here, 2: used, 3: here}, "bc"), ({1: here, 2: lack, 3: lack}, "bc"),
+                               ({1: old, 2: here, 3: here}, "abc"), ({1: old, 2: old, 3: here}, "ac")):
+            self.assertEqual(never_used(users, rosters, 3), [(name, kind) for name in names])
 
-
-def everybody() -> None:
-    """Who is locked, whose row isn't in place, and who never logged in, of what three members told."""
-    gates = {1: [Gate(b"bob", 2, NOW + 9), Gate(b"ann", 1, NOW)],
-             3: [Gate(b"bob", 1, NOW + 5), Gate(b"cid", 4, NOW + 60)]}
-    expect("locked", locked_now(gates, NOW), [("bob", "members 1, 3, opens in 5 s, 2 failures in a row"),
-                                              ("cid", "member 3, opens in 60 s, 4 failures in a row")])
-    counters = {b"a": 0, b"b": 0, b"c": 7}
-    users = {name: User(name, "HOTP/E/6", token=name * 2, begin=begin) for name, begin in counters.items()}
-    users[b"t"] = User(b"t", "HOTP/T30/6", token=b"tt")
-    here = {name: Row(0, user.token or b"", user.begin, name) for name, user in users.items()}
-    expect("all have all", not_in_place(users, {1: here, 2: here, 3: here}), [])
-    old, gone = {**here, b"b": Row(1, b"old", 0, b"b")}, {**here, b"z": Row(9, b"zz", 3, b"z")}
-    lack = {name: row for name, row in here.items() if name != b"a"}
-    expect("not in place", not_in_place(users, {1: old, 2: gone, 3: {**lack, b"b": Row(1, b"old", 0, b"b")}}), [
-        ("a", "not at member 3"), ("b", "not at members 1, 3"), ("z", "retired, and still at member 2")])
-    used = {**here, b"a": here[b"a"]._replace(floor=1)}
-    kind = users[b"a"].kind()
-    for rosters, names in (({1: here, 2: here, 3: here}, "abc"), ({1: here, 2: here}, "abc"), ({1: here}, ""),
-                           ({1: here, 2: used, 3: here}, "bc"), ({1: here, 2: lack, 3: lack}, "bc"),
-                           ({1: old, 2: here, 3: here}, "abc"), ({1: old, 2: old, 3: here}, "ac")):
-        expect("never used", never_used(users, rosters, 3), [(name, kind) for name in names])
-
-
-def words() -> None:
-    """How long something lasts."""
-    told = [lasting(seconds) for seconds in (1, 119, 120, 7199, 7200)]
-    expect("seconds, minutes, hours", told, ["1 s", "119 s", "2 min", "119 min", "2 h"])
-
-
-def main() -> bool:
-    for part in table, all_states, everybody, words:
-        print("%s: %s" % (part.__name__, part.__doc__), flush=True)
-        part()
-    return last_line()
+    def test_how_long(self) -> None:
+        """How long something lasts."""
+        told = [lasting(seconds) for seconds in (1, 119, 120, 7199, 7200)]
+        self.assertEqual(told, ["1 s", "119 s", "2 min", "119 min", "2 h"])
 
 
 if __name__ == "__main__":
-    sys.exit(main())
+    unittest.main()
