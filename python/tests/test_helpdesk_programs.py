@@ -6,16 +6,14 @@ import re
 import shutil
 import subprocess
 import unittest
-from importlib.util import find_spec
 from pathlib import Path
 
 from tests.cases import InFolder
 
 TOP = Path(__file__).resolve().parents[2]
 PYTHON = TOP / "python"
+# What the programs are run by, whatever runs the tests.
 DEBIANS_PYTHON = "/usr/bin/python3"
-HAS_ARGON2 = find_spec("argon2") is not None
-HAS_ALL = HAS_ARGON2 and all(map(find_spec, ("cryptography", "flask", "gunicorn")))
 # The programs with their modules, and what each says to `--help` first.
 PROGRAMS = [
     ("wakdulg-helpdesk", "wakdulg_helpdesk", "usage: helpdesk --key-file NUMBER:FILE --operator FILE "),
@@ -30,7 +28,20 @@ HOSTILE = "import os\nos.write(2, b'a module of a stranger\\n')\nos._exit(99)\n"
 NAMES = ("wakdulg", "wakdulg_helpdesk", "flask", "argon2", "json", "argparse", "usercustomize", "sitecustomize")
 
 
-@unittest.skipUnless(os.access(DEBIANS_PYTHON, os.X_OK), "needs /usr/bin/python3")
+def has(*names: str) -> bool:
+    """Returns whether Debian's Python is here with these packages."""
+    look = "import sys, importlib.util; sys.exit(not all(map(importlib.util.find_spec, sys.argv[1:])))"
+    try:
+        return subprocess.run([DEBIANS_PYTHON, "-Ic", look, *names]).returncode == 0
+    except FileNotFoundError:
+        return False
+
+
+NEEDS_ARGON2 = unittest.skipUnless(has("argon2"), "needs python3-argon2")
+NEEDS_ALL = unittest.skipUnless(has("argon2", "cryptography", "flask", "gunicorn"),
+                                "needs python3-argon2, python3-cryptography, python3-flask and gunicorn")
+
+
 class Programs(InFolder):
     def setUp(self) -> None:
         """Installs what docs/how-to/helpdesk.md does."""
@@ -52,7 +63,7 @@ class Programs(InFolder):
     def staff_line(self, *words: str, typed: str = "a long password\n") -> tuple[int, str, str]:
         return self.run_it(self.lib / "wakdulg-staff-line", *words, typed=typed)
 
-    @unittest.skipUnless(HAS_ALL, "needs python3-flask, python3-argon2, python3-cryptography and gunicorn")
+    @NEEDS_ALL
     def test_each_program(self) -> None:
         """A program says its words, also as a module."""
         for name, module, said in PROGRAMS:
@@ -63,7 +74,7 @@ class Programs(InFolder):
             self.assertEqual(as_module, (status, printed, told))
         self.assertEqual(list(self.lib.rglob("__pycache__")), [])
 
-    @unittest.skipUnless(HAS_ALL, "needs python3-flask, python3-argon2, python3-cryptography and gunicorn")
+    @NEEDS_ALL
     def test_modules_of_a_stranger(self) -> None:
         """A program takes no module from the working directory, from a home, or from where the environment points."""
         environment = {"HOME": str(Path("home").resolve()), "PYTHONPATH": os.getcwd()}
@@ -78,7 +89,7 @@ class Programs(InFolder):
         status, _, told = self.run_it(DEBIANS_PYTHON, "-m", "wakdulg_helpdesk", **environment)
         self.assertEqual((status, told), (99, "a module of a stranger\n"), "else the test shows nothing")
 
-    @unittest.skipUnless(HAS_ARGON2, "needs python3-argon2")
+    @NEEDS_ARGON2
     def test_a_line_of_staff(self) -> None:
         for role in "look", "unlock", "enrol", "all":
             status, printed, _ = self.staff_line("zoe", role)

@@ -1,4 +1,3 @@
-#!/usr/bin/python3
 """Tries the pages of the helpdesk without nodes and without a browser.
 
 OATHD is the program, else ./oathd of the checkout.
@@ -10,7 +9,6 @@ import csv
 import io
 import os
 import re
-import sys
 import time
 import unittest
 from importlib.util import find_spec
@@ -20,9 +18,6 @@ from typing import TYPE_CHECKING, Any, Callable
 from unittest import mock
 from urllib.parse import urljoin, urlsplit
 
-sys.dont_write_bytecode = True
-sys.path.insert(1, str(Path(__file__).resolve().parents[2] / "tools"))
-import checkout
 from tests.cases import HAS_PACKAGES, OverSite
 
 HAS_ARGON2 = find_spec("argon2") is not None
@@ -30,7 +25,7 @@ if TYPE_CHECKING or HAS_PACKAGES and HAS_ARGON2:
     import argon2
     import flask
 
-    from fakes import ORIGIN, Browser, Killed, left, secret_of, words_of
+    from tests.fake_site import ORIGIN, Browser, Killed, left, secret_of, words_of
     from wakdulg_helpdesk import web
     from wakdulg_helpdesk.book import Book
     from wakdulg_helpdesk.keeping import Keeper
@@ -489,15 +484,16 @@ class Pages(Case):
         site = Site()
         sam = site.log_in()
         asked = site.cluster.asked
-        cases = [("/enrol", {"name": "", "kind": "hotp"}, "NoName"), ("/enrol", {"name": "new"}, "BadType"),
-                 ("/enrol", {"name": "n ew", "kind": "hotp"}, "BadName"),
-                 ("/enrol", {"name": "ann", "kind": "totp"}, "DuplicateUser"),
-                 ("/enrol", {"name": "kim", "kind": "totp"}, "Protected"),
-                 ("/enrol", {"name": "x" * 65, "kind": "totp"}, "NameTooLong"),
-                 (place("kim", "replace"), {"kind": ""}, "Protected"), (place("kim", "retire"), {}, "Protected"),
-                 (place("ann", "replace"), {"kind": "other"}, "BadType"),
-                 (place("ann", "resync"), {"first": "12", "second": "000002"}, "BadCode"),
-                 (place("ann", "resync"), {"first": "000001", "second": "000001"}, "SameCode")]
+        cases: list[tuple[str, dict[str, str], str]] = [
+            ("/enrol", {"name": "", "kind": "hotp"}, "NoName"), ("/enrol", {"name": "new"}, "BadType"),
+            ("/enrol", {"name": "n ew", "kind": "hotp"}, "BadName"),
+            ("/enrol", {"name": "ann", "kind": "totp"}, "DuplicateUser"),
+            ("/enrol", {"name": "kim", "kind": "totp"}, "Protected"),
+            ("/enrol", {"name": "x" * 65, "kind": "totp"}, "NameTooLong"),
+            (place("kim", "replace"), {"kind": ""}, "Protected"), (place("kim", "retire"), {}, "Protected"),
+            (place("ann", "replace"), {"kind": "other"}, "BadType"),
+            (place("ann", "resync"), {"first": "12", "second": "000002"}, "BadCode"),
+            (place("ann", "resync"), {"first": "000001", "second": "000001"}, "SameCode")]
         for path, fields, fault in cases:
             sam.ask(path).send(path, code=site.code(), **fields)
             told = sam.status, fault in sam.alert(), "your code is good still" in sam.alert()
@@ -528,7 +524,3 @@ class Pages(Case):
         with mock.patch.multiple("tempfile", SpooledTemporaryFile=None, TemporaryFile=None, NamedTemporaryFile=None):
             with application.test_request_context(method="POST", data={"file": (io.BytesIO(data), "list.csv")}):
                 self.assertTrue(flask.request.files["file"].read() == data)
-
-
-if __name__ == "__main__":
-    unittest.main()

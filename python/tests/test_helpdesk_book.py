@@ -1,4 +1,3 @@
-#!/usr/bin/python3
 """Tries what a site does with a users file, without nodes: who has which token, the one writer, and its hook.
 
 OATHD is the program, else ./oathd of the checkout.
@@ -15,9 +14,6 @@ import unittest
 from pathlib import Path
 from typing import Any
 
-sys.dont_write_bytecode = True
-sys.path.insert(1, str(Path(__file__).resolve().parents[2] / "tools"))
-from checkout import TOP
 from tests.cases import InFolder
 from wakdulg_helpdesk.acts import Desk
 from wakdulg_helpdesk.book import Book, User, duplicates, user_of, with_row, with_rows
@@ -26,6 +22,7 @@ from wakdulg_helpdesk.members import State, row_of, settled
 from wakdulg_onboard.tokens import Fault, Row, Token, read_rows
 from wakdulg_onboard.users_file import UsersFile
 
+TOP = Path(__file__).resolve().parents[2]
 OATHD = os.environ.get("OATHD", str(TOP / "oathd"))
 NEEDS_QRENCODE = unittest.skipUnless(shutil.which("qrencode"), "needs qrencode")
 CLUSTER = "names trial-of-a-book\nlife 1\nkey-file key\nmember 1 127.0.0.1:9\n"
@@ -225,7 +222,3 @@ class Copies(Case):
             self.assertLess(time.monotonic() - begin, 30)
             began = Path("began").read_text().strip()
             self.await_that("nothing of it runs", lambda: is_running(began), False)
-
-
-if __name__ == "__main__":
-    unittest.main()

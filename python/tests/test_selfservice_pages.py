@@ -1,25 +1,18 @@
-#!/usr/bin/python3
 """Tries the pages of the self-service without nodes and without a browser.
 
 OATHD is the program, else ./oathd of the checkout.
 """
 from __future__ import annotations
 
-import sys
 import time
-import unittest
 from pathlib import Path
 from typing import TYPE_CHECKING, Any
 from unittest import mock
 
-sys.dont_write_bytecode = True
-sys.path.insert(1, str(Path(__file__).resolve().parents[2] / "tools"))
-sys.path.insert(1, str(Path(__file__).resolve().parents[1] / "helpdesk"))
-import checkout
 from tests.cases import HAS_PACKAGES, OverSite
 
 if TYPE_CHECKING or HAS_PACKAGES:
-    from fakes import Browser, Killed, left, secret_of, words_of
+    from tests.fake_site import Browser, Killed, left, secret_of, words_of
     from wakdulg_helpdesk.book import Book
     from wakdulg_helpdesk.keeping import Keeper
     from wakdulg_helpdesk.record import Record
@@ -205,7 +198,3 @@ class Pages(OverSite):
         told = "UTC by your helpdesk. If that was" in page, "192.0.2.1" in page
         self.assertEqual(told, (True, False), "after one by the helpdesk")
         self.assertNotIn("replaced at", site.log_in("bob").ask("/").page, "after one that was refused")
-
-
-if __name__ == "__main__":
-    unittest.main()

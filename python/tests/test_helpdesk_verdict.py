@@ -1,15 +1,10 @@
-#!/usr/bin/python3
 """Tries what pages say of a user and of all users, by tables of cases."""
 from __future__ import annotations
 
-import sys
 import unittest
 from itertools import product
-from pathlib import Path
+from typing import Callable, Sequence
 
-sys.dont_write_bytecode = True
-sys.path.insert(1, str(Path(__file__).resolve().parents[2] / "tools"))
-import checkout
 from wakdulg_helpdesk.book import User
 from wakdulg_helpdesk.everybody import locked_now, never_used, not_in_place
 from wakdulg_helpdesk.members import Gate, Row, State
@@ -118,9 +113,10 @@ class Verdicts(unittest.TestCase):
 
     def test_all_states(self) -> None:
         """No mixture of one to five members raises a fault, and the word is right by what members do."""
+        all_forms: Sequence[Callable[[int], State]] = (yes, other, no, silent)
         wrong = count = 0
         for size in range(1, 6):
-            for forms in product((yes, other, no, silent), repeat=size):
+            for forms in product(all_forms, repeat=size):
                 states = [form(number) for number, form in enumerate(forms, 1)]
                 most, word = size // 2 + 1, verdict(EVENT, states, NOW).word
                 heard, done = size - forms.count(silent), forms.count(yes)
@@ -164,7 +160,3 @@ class Verdicts(unittest.TestCase):
         """How long something lasts."""
         told = [lasting(seconds) for seconds in (1, 119, 120, 7199, 7200)]
         self.assertEqual(told, ["1 s", "119 s", "2 min", "119 min", "2 h"])
-
-
-if __name__ == "__main__":
-    unittest.main()

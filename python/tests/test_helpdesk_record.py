@@ -1,4 +1,3 @@
-#!/usr/bin/python3
 """Tries the record of a site, its chain, and the program that checks it."""
 from __future__ import annotations
 
@@ -8,16 +7,13 @@ import resource
 import subprocess
 import sys
 import time
-import unittest
 from pathlib import Path
 from unittest import mock
 
-sys.dont_write_bytecode = True
-sys.path.insert(1, str(Path(__file__).resolve().parents[2] / "tools"))
-from checkout import TOP
 from tests.cases import InFolder
 from wakdulg_helpdesk.record import Record, check, files_of, lines_back, print_of, read_back, tail_of
 
+PYTHON = Path(__file__).resolve().parents[1]
 # Processes that write one record at once.
 WRITER = """
 import sys
@@ -29,9 +25,9 @@ for number in range(100):
 """
 
 
-def written(*more: str) -> str:
+def written(user: str, outcome: str) -> str:
     """Writes a line of sam's, and returns its print."""
-    return Record("record").write("sam", "retire", *more, "-")
+    return Record("record").write("sam", "retire", user, outcome, "-")
 
 
 def told(path: str = "record") -> list[str]:
@@ -41,7 +37,7 @@ def told(path: str = "record") -> list[str]:
 
 def program(*words: str) -> tuple[int, str]:
     """Returns the status of helpdesk-record and the last line that it prints."""
-    command = [sys.executable, "-I", str(TOP / "python/wakdulg-helpdesk-record"), *words]
+    command = [sys.executable, "-I", str(PYTHON / "wakdulg-helpdesk-record"), *words]
     done = subprocess.run(command, capture_output=True, text=True)
     return done.returncode, (done.stdout + done.stderr).strip().rpartition("\n")[2]
 
@@ -125,7 +121,7 @@ class Records(InFolder):
 
     def test_several_writers(self) -> None:
         """Several processes write one record."""
-        running = [subprocess.Popen([sys.executable, "-c", WRITER, TOP / "python"]) for _ in range(4)]
+        running = [subprocess.Popen([sys.executable, "-Bc", WRITER, PYTHON]) for _ in range(4)]
         self.assertEqual([each.wait() for each in running], [0] * 4, "each ends")
         found = check("record")
         self.assertEqual((found.fault, found.lines, found.notes), ("", 400, []), "each line is there, and follows")
@@ -167,7 +163,3 @@ class Records(InFolder):
         Path("record").write_text(text.replace('"user": "cid"', '"user": "dan"'))
         self.assertEqual(check("record").fault, "record:5: it doesn't follow the line before it", "changed")
         self.assertEqual(len(list(lines_back("record"))), 5, "lines back")
-
-
-if __name__ == "__main__":
-    unittest.main()
