@@ -31,6 +31,7 @@ from wakdulg_helpdesk.staff import check_staff
 
 
 def log_of(text: str) -> tuple[int, str]:
+    """Returns the number of a member and the path of its log."""
     member, mark, path = text.partition("=")
     if not mark or not member.isdigit():
         raise argparse.ArgumentTypeError("I=FILE, with the number of a member")
@@ -38,12 +39,14 @@ def log_of(text: str) -> tuple[int, str]:
 
 
 def count_of(text: str) -> int:
+    """Returns a number of acts."""
     if not text.isdecimal() or not 1 <= int(text) <= 10_000:
         raise argparse.ArgumentTypeError("N is 1 to 10000")
     return int(text)
 
 
 def read_words() -> argparse.Namespace:
+    """Returns the words of the command line, and what a site is made of. Ends the program if they are wrong."""
     parser = parser_of("helpdesk", __doc__.split("\n\n")[1].strip())
     parser.add_argument("--operator", required=True)
     parser.add_argument("--log", action="append", type=log_of, default=[])

@@ -10,8 +10,8 @@ helpdesk over the same users file and the same record. --late (120): if no code 
 time, the page says that something is wrong. OATHD is the program, else oathd. docs/how-to/self-service.md
 shows it.
 
-Packages: python3-flask, python3-argon2, python3-cryptography, gunicorn, qrencode. Each answer of the cluster is a line
-of standard output.
+Packages: python3-flask, python3-cryptography, gunicorn, qrencode. Each answer of the cluster is a line of standard
+output.
 """
 from __future__ import annotations
 
@@ -25,6 +25,7 @@ from wakdulg_selfservice.pages import make_application
 
 
 def read_words() -> argparse.Namespace:
+    """Returns the words of the command line, and what a site is made of. Ends the program if they are wrong."""
     parser = parser_of("self-service", __doc__.split("\n\n")[1].strip())
     parser.add_argument("--allow", action="append", choices=("resync", "replace"), required=True)
     parser.add_argument("--late", type=float, default=120.0)
