@@ -8,7 +8,6 @@ import os
 import re
 from collections import Counter
 from pathlib import Path
-from types import SimpleNamespace
 from typing import Any, Callable
 
 import wakdulg
@@ -20,6 +19,7 @@ from wakdulg_helpdesk.members import Gate, Row, State
 from wakdulg_helpdesk.record import Record
 from wakdulg_helpdesk.sessions import Sessions
 from wakdulg_helpdesk.staff import staff_of
+from wakdulg_helpdesk.web import Parts
 from wakdulg_onboard.tokens import read_rows
 
 OATHD = os.environ.get("OATHD", str(Path(__file__).resolve().parents[2] / "oathd"))
@@ -104,18 +104,15 @@ class Table:
         return 1, {"rows": rows, "said": "", "status": 0, "when": "00:00:00 UTC"}
 
 
-def words_of(sessions: Sessions, keeper: Keeper, **more: Any) -> Any:
-    """Returns the words of a site over the files of the working directory, as its process has them after a start."""
+def parts_of(sessions: Sessions, keeper: Keeper, tell: str | None = None) -> Parts:
+    """Returns what a site is made of over the files of the working directory, as its process has it after a start."""
     book = Book("users", OATHD, ClusterFile("cluster"), "true")
     cluster: Any = Cluster(book)
     members: Any = Members()
     log = logging.getLogger("trial")
     log.setLevel(logging.CRITICAL)
-    more = {"tell": None, **more}
     desk = Desk(book, members, cluster, staff_of("staff"), "Example Site")
-    logs = SimpleNamespace(last=lambda user, count: [])
-    return SimpleNamespace(origin=ORIGIN, desk=desk, record=Record("record"), sessions=sessions, keeper=keeper,
-                           staff="staff", login_log=log, table=Table(), logs=logs, users="users", **more)
+    return Parts(ORIGIN, desk, sessions, keeper, Record("record"), log, tell)
 
 
 class Browser:

@@ -25,12 +25,11 @@ if TYPE_CHECKING or HAS_PACKAGES and HAS_ARGON2:
     import argon2
     import flask
 
-    from tests.fake_site import ORIGIN, Browser, Killed, left, secret_of, words_of
-    from wakdulg_helpdesk import web
+    from tests.fake_site import ORIGIN, Browser, Killed, Table, left, parts_of, secret_of
+    from wakdulg_helpdesk import pages, web
     from wakdulg_helpdesk.book import Book
     from wakdulg_helpdesk.keeping import Keeper
-    from wakdulg_helpdesk.members import Gate, Row, State
-    from wakdulg_helpdesk.pages import make_application
+    from wakdulg_helpdesk.members import Gate, Logs, Row, State
     from wakdulg_helpdesk.record import Record, check
     from wakdulg_helpdesk.sessions import Sessions
     from wakdulg_helpdesk.staff import check_staff, hashes_of, names_of
@@ -47,18 +46,21 @@ real_time = time.time
 class Site:
     """A helpdesk whose process may end and start again over the same files."""
 
-    def __init__(self, **more: Any) -> None:
-        self.more = {"two_of_staff": False, "acts": 60, **more}
+    def __init__(self, most_acts: int = 60, is_of_two: bool = False) -> None:
+        self.most_acts, self.is_of_two = most_acts, is_of_two
         self.next_codes: Any = None
         self.start()
 
     def start(self) -> None:
         """Starts the process: what an earlier one had in memory is gone."""
-        self.words = words_of(Sessions("helpdesk", 900, 14400), Keeper("users", "helpdesk", 3600), **self.more)
-        self.desk = self.words.desk
+        self.keeper = Keeper("users", "helpdesk", 3600)
+        parts = parts_of(Sessions("helpdesk", 900, 14400), self.keeper)
+        self.desk: Any = parts.desk
         self.cluster, self.members = self.desk.cluster, self.desk.members
         self.next_codes = self.cluster.next = self.next_codes or self.cluster.next
-        self.application = make_application(self.words)
+        table: Any = Table()
+        site = pages.Site(parts, self.members, table, Logs({}), "staff", self.most_acts, self.is_of_two)
+        self.application = pages.make_application(site)
         self.application.testing = True
 
     def log_in(self, name: str = "sam", browser: Browser | None = None) -> Browser:
@@ -160,7 +162,7 @@ class Secrets(Case):
         past = time.time() - 3601
         os.utime(left()[0], (past, past))
         site.start()
-        site.words.keeper.remove_old()
+        site.keeper.remove_old()
         self.assertEqual(left(), [], "after an hour")
 
     def test_a_killed_act(self) -> None:
@@ -282,7 +284,7 @@ class Staff(Case):
 
     def test_two_of_staff(self) -> None:
         """Two of staff replace a phone: one asks, another one confirms, and the first one has the secret."""
-        site, before = Site(two_of_staff=True), secret_of("ann")
+        site, before = Site(is_of_two=True), secret_of("ann")
         sam, kim = site.log_in(), site.log_in("kim")
         site.act(sam, "ann", "replace", kind="")
         self.assertEqual((sam.place, secret_of("ann")), ("/waiting", before), "nothing is done")
@@ -309,7 +311,7 @@ class Staff(Case):
 
     def test_a_retired_name_takes_two(self) -> None:
         """To retire a user and to enrol the name again is a replacement: it takes two as well."""
-        site = Site(two_of_staff=True)
+        site = Site(is_of_two=True)
         sam, kim = site.log_in(), site.log_in("kim")
         sam.ask("/enrol").send("/enrol", name="new", kind="hotp", code=site.code())
         self.assertEqual((sam.place, secret_of("new") != ""), (place("new", "secret"), True), "a new name")
@@ -325,7 +327,7 @@ class Staff(Case):
         for what, status in (("an hour", 404), ("another row", 409), ("no right", 403), ("logged out", 409),
                              ("a restart", 404)):
             self.begin()
-            site = Site(two_of_staff=True)
+            site = Site(is_of_two=True)
             sam, kim, before = site.log_in(), site.log_in("kim"), secret_of("ann")
             site.act(sam, "ann", "replace", kind="")
             path = kim.ask("/waiting").find(WAITING)
@@ -346,7 +348,7 @@ class Staff(Case):
 
     def test_an_import_of_two(self) -> None:
         """An import of two: the second one sees its rows."""
-        site, rows = Site(two_of_staff=True), "user,secret,type\nhal,%040x,HOTP\nida,%040x,TOTP\n" % (91, 92)
+        site, rows = Site(is_of_two=True), "user,secret,type\nhal,%040x,HOTP\nida,%040x,TOTP\n" % (91, 92)
         sam, kim = site.log_in(), site.log_in("kim")
         sam.ask("/import").send("/import", file=(io.BytesIO(rows.encode()), "list.csv"), secrets="hex")
         path = sam.place
@@ -359,7 +361,7 @@ class Staff(Case):
 
     def test_acts_an_hour(self) -> None:
         """How many acts one of staff begins within an hour. A restart forgets none, and a refusal costs no code."""
-        site = Site(acts=3)
+        site = Site(most_acts=3)
         sam, kim = site.log_in(), site.log_in("kim")
         for name in USERS:
             site.act(sam, name, "unlock")

@@ -12,13 +12,13 @@ from unittest import mock
 from tests.cases import HAS_PACKAGES, OverSite
 
 if TYPE_CHECKING or HAS_PACKAGES:
-    from tests.fake_site import Browser, Killed, left, secret_of, words_of
+    from tests.fake_site import Browser, Killed, left, parts_of, secret_of
     from wakdulg_helpdesk.book import Book
     from wakdulg_helpdesk.keeping import Keeper
     from wakdulg_helpdesk.record import Record
     from wakdulg_helpdesk.sessions import Sessions
     from wakdulg_onboard.tokens import read_rows
-    from wakdulg_selfservice.pages import make_application
+    from wakdulg_selfservice import pages
 
 USERS, WORD = ("ann", "bob"), "word-of-a-user"
 real_time = time.time
@@ -27,17 +27,18 @@ real_time = time.time
 class Site:
     """A self-service whose process may end and start again over the same files."""
 
-    def __init__(self, **more: Any) -> None:
-        self.more = {"allow": ["resync", "replace"], "late": 120.0, **more}
+    def __init__(self, tell: str | None = None) -> None:
+        self.tell = tell
         self.next_codes: Any = None
         self.start()
 
     def start(self) -> None:
         """Starts the process: what an earlier one had in memory is gone."""
-        words = words_of(Sessions("self-service", 300, 600), Keeper("users", "self-service", 600), **self.more)
-        self.cluster = words.desk.cluster
+        keeper = Keeper("users", "self-service", 600)
+        parts = parts_of(Sessions("self-service", 300, 600), keeper, self.tell)
+        self.cluster: Any = parts.desk.cluster
         self.next_codes = self.cluster.next = self.next_codes or self.cluster.next
-        self.application = make_application(words)
+        self.application = pages.make_application(pages.Site(parts, ["resync", "replace"], 120.0))
         self.application.testing = True
 
     def log_in(self, name: str = "ann", browser: Browser | None = None) -> Browser:

@@ -16,7 +16,7 @@ from wakdulg_helpdesk.acts import KINDS, Act, Shown
 from wakdulg_helpdesk.book import User
 from wakdulg_helpdesk.everybody import MOST, Everybody
 from wakdulg_helpdesk.keeping import Kept
-from wakdulg_helpdesk.members import settled
+from wakdulg_helpdesk.members import Logs, Members, Table, settled
 from wakdulg_helpdesk.passwords import Passwords
 from wakdulg_helpdesk.record import BEGINS, REFUSED, Line, second_of
 from wakdulg_helpdesk.sessions import Session, is_same
@@ -52,13 +52,12 @@ class Site(web.Pages):
     places = [("/", "Search"), ("/enrol", "Enrol"), ("/import", "Import"), ("/waiting", "Waiting"),
               ("/cluster", "Cluster"), ("/record", "Record")]
 
-    def __init__(self, words: Any) -> None:
-        super().__init__(words)
-        self.staff, self.most_acts, self.waiting = words.staff, words.acts, Waiting()
-        self.of_two = OF_TWO if words.two_of_staff else frozenset()
-        self.members, self.table, self.logs = words.desk.members, words.table, words.logs
-        self.everybody = Everybody(self.members, self.book)
-        self.passwords = Passwords(lambda: hashes_of(words.staff))
+    def __init__(self, parts: web.Parts, members: Members, table: Table, logs: Logs, staff: str, most_acts: int,
+                 is_of_two: bool) -> None:
+        super().__init__(parts)
+        self.members, self.table, self.logs, self.everybody = members, table, logs, Everybody(members, self.book)
+        self.staff, self.passwords = staff, Passwords(lambda: hashes_of(staff))
+        self.most_acts, self.waiting, self.of_two = most_acts, Waiting(), OF_TWO if is_of_two else frozenset()
 
     # ---- Who asks
 
@@ -461,9 +460,8 @@ def is_settling(line: Line) -> bool:
     return is_done and line.get("act") in ("enrol", "replace", "retire", "confirm")
 
 
-def make_application(words: Any) -> Flask:
-    """Returns the application of these words."""
-    site = Site(words)
+def make_application(site: Site) -> Flask:
+    """Returns the application of a helpdesk."""
     routes: list[web.Route] = [
         ("/", site.show_search, "GET"), ("/search.json", site.search, "GET"), ("/login", site.show_login, "GET"),
         ("/login", site.log_in, "POST"), ("/logout", site.log_out, "POST"), ("/cluster", site.show_cluster, "GET"),

@@ -21,11 +21,13 @@ from __future__ import annotations
 
 import argparse
 
+from flask import Flask
+
 from wakdulg_helpdesk.cluster_file import ClusterFile
 from wakdulg_helpdesk.keeping import Keeper
 from wakdulg_helpdesk.members import Logs, Members, Table
-from wakdulg_helpdesk.pages import make_application
-from wakdulg_helpdesk.service import Service, oathd, parser_of, prepare
+from wakdulg_helpdesk.pages import Site, make_application
+from wakdulg_helpdesk.service import Service, oathd, parser_of, parts_of
 from wakdulg_helpdesk.sessions import Sessions
 from wakdulg_helpdesk.staff import check_staff
 
@@ -45,8 +47,8 @@ def count_of(text: str) -> int:
     return int(text)
 
 
-def read_words() -> argparse.Namespace:
-    """Returns the words of the command line, and what a site is made of. Ends the program if they are wrong."""
+def main() -> None:
+    """Serves the pages until a signal comes."""
     parser = parser_of("helpdesk", __doc__.split("\n\n")[1].strip())
     parser.add_argument("--operator", required=True)
     parser.add_argument("--log", action="append", type=log_of, default=[])
@@ -57,15 +59,12 @@ def read_words() -> argparse.Namespace:
         check_staff(words.staff, 2 if words.two_of_staff else 0)
         file = ClusterFile(words.cluster)
         members = Members(file, words.operator, oathd(), words.patience)
-        prepare(words, file, members)
+        sessions = Sessions("helpdesk", idle=15 * 60, longest=4 * 3600)
+        parts = parts_of(words, file, sessions, Keeper(words.users, "helpdesk", longest=3600), members)
     except (ValueError, OSError) as fault:
         parser.error(str(fault))
-    words.table, words.logs = Table(members), Logs(dict(words.log))
-    words.sessions = Sessions("helpdesk", idle=15 * 60, longest=4 * 3600)
-    words.keeper = Keeper(words.users, "helpdesk", longest=3600)
-    return words
+    table, logs = Table(members), Logs(dict(words.log))
 
-
-def main() -> None:
-    """Serves the pages until a signal comes."""
-    Service(read_words(), make_application).run()
+    def application() -> Flask:
+        return make_application(Site(parts, members, table, logs, words.staff, words.acts, words.two_of_staff))
+    Service(words.socket, parts, application).run()

@@ -15,9 +15,12 @@ import wakdulg
 from wakdulg_helpdesk.acts import Desk
 from wakdulg_helpdesk.book import Book
 from wakdulg_helpdesk.cluster_file import ClusterFile
+from wakdulg_helpdesk.keeping import Keeper
 from wakdulg_helpdesk.members import Members
 from wakdulg_helpdesk.record import Record
+from wakdulg_helpdesk.sessions import Sessions
 from wakdulg_helpdesk.staff import staff_of
+from wakdulg_helpdesk.web import Parts
 
 THREADS = 96
 LOG = logging.getLogger("logins")
@@ -32,31 +35,33 @@ class Worker(ThreadWorker):
 
 
 class Service(BaseApplication):
-    """gunicorn with one process, since sessions are in its memory. Each connection has one request."""
+    """gunicorn with one process at a unix socket, since sessions are in its memory. Each connection has one request."""
 
-    def __init__(self, words: argparse.Namespace, make_application: Callable[[Any], Flask]) -> None:
-        self.words, self.make_application = words, make_application
+    def __init__(self, socket: str, parts: Parts, make_application: Callable[[], Flask]) -> None:
+        self.socket, self.parts, self.make_application = socket, parts, make_application
         super().__init__()
 
     def load_config(self) -> None:
         for name, value in {"workers": 1, "worker_class": "wakdulg_helpdesk.service.Worker", "threads": THREADS,
                             "keepalive": 0, "worker_connections": 2 * THREADS, "backlog": 128, "umask": 0o007,
                             "loglevel": "warning", "limit_request_line": 2048, "limit_request_fields": 20,
-                            "timeout": 300, "bind": "unix:" + self.words.socket}.items():
+                            "timeout": 300, "bind": "unix:" + self.socket}.items():
             self.cfg.set(name, value)
 
     def load(self) -> Flask:
         # In the process that serves, since a thread isn't in the child of a process.
-        self.words.desk.book.keep_copying()
-        self.words.keeper.remove_old()
-        return self.make_application(self.words)
+        self.parts.desk.book.keep_copying()
+        self.parts.keeper.remove_old()
+        return self.make_application()
 
 
 def oathd() -> str:
+    """Returns the program that reads users files."""
     return os.environ.get("OATHD", "oathd")
 
 
 def parser_of(program: str, usage: str) -> argparse.ArgumentParser:
+    """Returns a parser of the words that each site has."""
     parser = argparse.ArgumentParser(program, usage, allow_abbrev=False)
     for name in "key-file", "cluster", "users", "staff", "record", "issuer":
         parser.add_argument("--" + name, required=True)
@@ -68,15 +73,17 @@ def parser_of(program: str, usage: str) -> argparse.ArgumentParser:
     return parser
 
 
-def prepare(words: argparse.Namespace, file: ClusterFile, members: Members | None = None) -> None:
-    """Puts into the words what they name: the desk over a cluster file, the record and the log."""
+def parts_of(words: argparse.Namespace, file: ClusterFile, sessions: Sessions, keeper: Keeper,
+             members: Members | None = None) -> Parts:
+    """Returns what the words of a site name, and begins its log. Raises ValueError or OSError if a file is wrong."""
     pauses = words.patience / 8, words.patience * 5 / 16
     cluster = wakdulg.Cluster(file.nodes, pauses, words.patience, key=wakdulg.read_key(words.key_file))
     book = Book(words.users, oathd(), file, words.push)
-    words.desk = Desk(book, members, cluster, staff_of(words.staff), words.issuer)
-    words.record, words.login_log = Record(words.record), LOG
+    desk = Desk(book, members, cluster, staff_of(words.staff), words.issuer)
+    record = Record(words.record)
     # A line that can't be written is lost, and holds up no login.
     logging.raiseExceptions = False
     LOG.addHandler(logging.StreamHandler(sys.stdout))
     LOG.setLevel(logging.INFO)
     LOG.propagate = False
+    return Parts(words.origin, desk, sessions, keeper, record, LOG, words.tell)

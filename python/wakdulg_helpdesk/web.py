@@ -9,7 +9,7 @@ import shlex
 import threading
 import time
 from pathlib import Path
-from typing import Any, Callable, Sequence, Tuple
+from typing import Any, Callable, NamedTuple, Sequence, Tuple
 from urllib.parse import quote
 
 import flask
@@ -74,6 +74,18 @@ def address() -> str:
     return request.headers.get("X-Real-IP", "-")
 
 
+class Parts(NamedTuple):
+    """What a site is made of. `origin` is the site as a browser names it. `tell` is a command that tells a user of a
+    new phone."""
+    origin: str
+    desk: Desk
+    sessions: Sessions
+    keeper: Keeper
+    record: Record
+    login_log: logging.Logger
+    tell: str | None
+
+
 class Pages:
     """A site. Its name stands in titles, and its places in the navigation of whoever is logged in. `by` is what a user
     is told of who replaced the phone. A template is looked for in the folders of `templates`, in their order."""
@@ -81,14 +93,10 @@ class Pages:
     places: Sequence[tuple[str, str]] = ()
     templates: Sequence[Path] = (FOLDER / "templates",)
 
-    def __init__(self, words: Any) -> None:
-        self.desk: Desk = words.desk
-        self.sessions: Sessions = words.sessions
-        self.keeper: Keeper = words.keeper
-        self.record: Record = words.record
-        self.login_log: logging.Logger = words.login_log
-        self.origin, self.book, self.cluster = words.origin, self.desk.book, self.desk.cluster
-        self.beginning, self.teller = threading.Lock(), shlex.split(words.tell or "")
+    def __init__(self, parts: Parts) -> None:
+        self.origin, self.desk, self.sessions, self.keeper, self.record, self.login_log, tell = parts
+        self.book, self.cluster = self.desk.book, self.desk.cluster
+        self.beginning, self.teller = threading.Lock(), shlex.split(tell or "")
 
     # ---- Who asks
 

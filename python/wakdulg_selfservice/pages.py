@@ -4,7 +4,7 @@ from __future__ import annotations
 import secrets
 import time
 from pathlib import Path
-from typing import Any, Callable
+from typing import Any, Callable, Sequence
 
 from flask import Flask, Response, redirect, request
 from flask.typing import ResponseReturnValue as Reply
@@ -52,9 +52,9 @@ class Site(web.Pages):
     name, by = "My token", "on the page for users"
     templates = (Path(__file__).resolve().parent / "templates", *web.Pages.templates)
 
-    def __init__(self, words: Any) -> None:
-        super().__init__(words)
-        self.acts, self.late = words.allow, words.late
+    def __init__(self, parts: web.Parts, acts: Sequence[str], late: float) -> None:
+        super().__init__(parts)
+        self.acts, self.late = acts, late
         titles = [("resync", "/resync", "Resynchronize"), ("replace", "/replace", "Replace the phone")]
         self.places = [("/", "My token")] + [(path, title) for act, path, title in titles if act in self.acts]
 
@@ -218,13 +218,13 @@ class Site(web.Pages):
         return self.show_phone(" ".join([NOT_YET if late < self.late else TOO_LATE % late, alert]).strip(), told[1])
 
 
-def make_application(words: Any) -> Flask:
-    site = Site(words)
+def make_application(site: Site) -> Flask:
+    """Returns the application of a self-service. It has the pages of its acts alone."""
     routes: list[web.Route] = [("/", site.show_home, "GET"), ("/login", site.show_login, "GET"),
                                ("/login", site.log_in, "POST"), ("/logout", site.log_out, "POST")]
-    if "resync" in words.allow:
+    if "resync" in site.acts:
         routes += [("/resync", site.show_resync, "GET"), ("/resync", site.resync, "POST")]
-    if "replace" in words.allow:
+    if "replace" in site.acts:
         routes += [("/replace", site.show_replace, "GET"), ("/replace", site.replace, "POST"),
                    ("/phone", site.show_phone, "GET"), ("/phone", site.confirm, "POST")]
     return web.make_application(site, routes)

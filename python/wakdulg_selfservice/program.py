@@ -15,30 +15,28 @@ output.
 """
 from __future__ import annotations
 
-import argparse
+from flask import Flask
 
 from wakdulg_helpdesk.cluster_file import ClusterFile
 from wakdulg_helpdesk.keeping import Keeper
-from wakdulg_helpdesk.service import Service, parser_of, prepare
+from wakdulg_helpdesk.service import Service, parser_of, parts_of
 from wakdulg_helpdesk.sessions import Sessions
-from wakdulg_selfservice.pages import make_application
+from wakdulg_selfservice.pages import Site, make_application
 
 
-def read_words() -> argparse.Namespace:
-    """Returns the words of the command line, and what a site is made of. Ends the program if they are wrong."""
+def main() -> None:
+    """Serves the pages until a signal comes."""
     parser = parser_of("self-service", __doc__.split("\n\n")[1].strip())
     parser.add_argument("--allow", action="append", choices=("resync", "replace"), required=True)
     parser.add_argument("--late", type=float, default=120.0)
     words = parser.parse_args()
     try:
-        prepare(words, ClusterFile(words.cluster))
+        sessions = Sessions("self-service", idle=5 * 60, longest=10 * 60)
+        keeper = Keeper(words.users, "self-service", longest=10 * 60)
+        parts = parts_of(words, ClusterFile(words.cluster), sessions, keeper)
     except (ValueError, OSError) as fault:
         parser.error(str(fault))
-    words.sessions = Sessions("self-service", idle=5 * 60, longest=10 * 60)
-    words.keeper = Keeper(words.users, "self-service", longest=10 * 60)
-    return words
 
-
-def main() -> None:
-    """Serves the pages until a signal comes."""
-    Service(read_words(), make_application).run()
+    def application() -> Flask:
+        return make_application(Site(parts, words.allow, words.late))
+    Service(words.socket, parts, application).run()
