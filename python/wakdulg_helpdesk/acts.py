@@ -30,6 +30,7 @@ class Shown:
         self.squares = Squares(phone.draw(uri, "ASCII").decode().splitlines())
 
     def spaced(self) -> str:
+        """Returns the secret in blocks of four letters, to type."""
         return " ".join(self.secret[at:at + 4] for at in range(0, len(self.secret), 4))
 
 
@@ -65,6 +66,7 @@ def copied(outcome: tuple[bool, str]) -> str:
 
 
 def kind_of(token: Token) -> str:
+    """Returns the kind of a token in words, as pages have it."""
     return User(b"", token.type_word()).kind()
 
 
@@ -111,18 +113,22 @@ class Desk:
             raise Fault("staff", "Protected", "%s is staff, whose rows are changed on the host alone" % name)
 
     def unlock(self, user: User, form: Form) -> Act:
+        """Has all members forget the failures of the user."""
         return Act("unlock", user.text, lambda: self.unlocked(user.name))
 
     def unlocked(self, name: bytes) -> str:
+        """Unlocks a user, and returns what each member said."""
         if self.members is None:
             raise Fault("the site", "NoOperator", "it has no operator's key")
         return self.members.unlock(name)
 
     def resync(self, user: User, form: Form) -> Act:
+        """Gives the cluster two codes in a row of the user's token."""
         codes = read_codes(form)
         return Act("resync", user.text, lambda: self.resynchronized(user.text, *codes))
 
     def resynchronized(self, name: str, first: str, second: str) -> str:
+        """Resynchronizes a token, and returns what the cluster said."""
         try:
             return "resynchronized at factor %d" % self.cluster.resync(name, first, second).factor
         except wakdulg.Refused as refusal:
@@ -134,6 +140,7 @@ class Desk:
         return Act(name, user, lambda: "%s; %s" % (done, copied(self.book.change(edit))), **more)
 
     def shown_of(self, token: Token) -> Shown:
+        """Returns the secret of a new token as a page shows it."""
         return Shown(phone.uri_of(token, self.issuer, token.user or ""), kind_of(token))
 
     def replace(self, user: User, form: Form) -> Act:
@@ -146,6 +153,7 @@ class Desk:
 
     @staticmethod
     def replacement(user: User, token: Token) -> Edit:
+        """Returns an edit that gives a user another token, and leaves the password."""
         def edit(users: UsersFile) -> bytes:
             fields = token.row("-").split(b"\t")
             fields[2] = row_in(users, user.name).password
@@ -153,6 +161,7 @@ class Desk:
         return edit
 
     def retire(self, user: User, form: Form) -> Act:
+        """Removes the row of the user."""
         self.protect(user.text)
         return self.edited("retire", user.text, with_row(user.name, user.mark, b""), "retired",
                            takes=(user.token or b"").decode())
@@ -166,6 +175,7 @@ class Desk:
                            shown=self.shown_of(token), rows=[(name, token.type_word())])
 
     def import_rows(self, tokens: list[Token]) -> Act:
+        """Adds the rows of all tokens, or none."""
         rows = [(token.user or "", token.type_word()) for token in tokens]
         for name, _ in rows:
             self.protect(name)
@@ -226,5 +236,6 @@ class ImportWords:
 
 
 def line_of(fault: str) -> int:
+    """Returns the number of the line that a fault names, or 0."""
     number = fault.partition("line ")[2].partition(":")[0]
     return int(number) if number.isdigit() else 0

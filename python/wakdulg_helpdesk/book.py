@@ -36,10 +36,12 @@ class User(NamedTuple):
 
     @property
     def text(self) -> str:
+        """The name as pages show it."""
         return self.name.decode("utf-8", "backslashreplace")
 
     @property
     def hex(self) -> str:
+        """The name as addresses have it."""
         return self.name.hex()
 
     @property
@@ -52,12 +54,15 @@ class User(NamedTuple):
         return {"T30": 30, "T60": 60}.get((self.type + "/").split("/")[1])
 
     def digits(self) -> int:
+        """Returns how many digits a code has."""
         return int(self.type.split("/")[2])
 
     def hash(self) -> str:
+        """Returns the hash, as the type has it."""
         return (self.type.split("/") + ["SHA1"])[3]
 
     def kind(self) -> str:
+        """Returns the kind of the token in words."""
         period = self.period()
         what = "time token, steps of %d s" % period if period else "event token"
         return "%s, %d digits, %s" % (what, self.digits(), HASHES.get(self.hash(), "SHA-1"))
@@ -71,10 +76,12 @@ def whole_type(word: bytes) -> bytes:
 
 
 def fields_of(row: Row) -> bytes:
+    """Returns what makes the name of a row's token: type, user and secret."""
     return b"\t".join([whole_type(row.type), row.user, row.secret.lower()])
 
 
 def mark_of(row: Row) -> bytes:
+    """Returns what differs if a row does."""
     return hashlib.sha256(fields_of(row) + b"\t" + row.password).digest()
 
 
@@ -127,6 +134,7 @@ class Book:
                 self.fault = str(fault)
 
     def find(self, name: bytes) -> User | None:
+        """Returns the user of a name, or None if nobody has it."""
         self.refresh()
         return self.users.get(name)
 

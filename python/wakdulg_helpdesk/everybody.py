@@ -25,10 +25,12 @@ class Lists(NamedTuple):
 
 
 def numbered(numbers: Sequence[int]) -> str:
+    """Returns "member 2", or "members 1, 3"."""
     return "member%s %s" % ("s" * (len(numbers) > 1), ", ".join(map(str, numbers)))
 
 
 def text_of(name: bytes) -> str:
+    """Returns a name as lists show it."""
     return name.decode("utf-8", "replace")
 
 
@@ -88,6 +90,7 @@ class Everybody:
             return self.last
 
     def look(self) -> Lists:
+        """Asks the members, and returns the lists of this moment."""
         count = len(self.members.all)
         gates = self.told(lambda member: member.gates())
         rosters = self.told(self.roster_of)

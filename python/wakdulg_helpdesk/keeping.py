@@ -69,6 +69,7 @@ class Keeper:
 
     @staticmethod
     def read(path: str, key: bytes) -> Kept | None:
+        """Returns the secret of a file, or None if the key isn't the one of the file."""
         try:
             with open(path, "rb") as file:
                 data = file.read()
@@ -111,6 +112,7 @@ class Keeper:
             os.utime(path)
 
     def forget_all(self, cookie: str) -> None:
+        """Removes the secrets that a browser with this cookie may see."""
         for kept in self.all_of(cookie):
             self.forget(kept.path)
 

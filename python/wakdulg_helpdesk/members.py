@@ -78,6 +78,7 @@ class Member:
         raise Silent("member %d" % self.number)
 
     def hear(self, client: socket.socket, asked: Request) -> bytes | None:
+        """Sends a request, and returns the report that comes within the pause, or None."""
         end = time.monotonic() + self.pause
         try:
             client.send(asked.datagram())
@@ -146,9 +147,11 @@ class Member:
             return found.get(user)
 
     def boot_now(self) -> bytes:
+        """Returns the line of STATUS that has the boot of the member."""
         return next(line for line in self.request(b"STATUS 0") if line.startswith(b"boot "))
 
     def gates(self) -> list[Gate]:
+        """Returns the gates of all users who failed."""
         return [gate_of(line) for line in self.report(b"GATES")]
 
     def roster(self) -> dict[bytes, Row]:
@@ -161,6 +164,7 @@ class Member:
         return next(((gate.failures, gate.until) for gate in self.gates() if gate.user == user), (0, 0))
 
     def unlock(self, user: bytes) -> None:
+        """Has the member forget the failures of a user. Raises a refusal, or that it is silent."""
         self.request(b"UNLOCK " + user)
 
 
@@ -216,6 +220,7 @@ class Members:
         return State(member.number, "yes" if is_done else "another", is_done, row.floor, failures, until)
 
     def states(self, user: User) -> list[State]:
+        """Returns what each member says of a user."""
         return self.ask_all(lambda member: self.state_at(member, user))
 
     def unlock(self, user: bytes) -> str:
@@ -262,6 +267,7 @@ class Table:
             return self.number, self.last
 
     def ask(self) -> Told:
+        """Returns a new table, some seconds after the last one."""
         time.sleep(max(0, self.asked + self.PAUSE - time.monotonic()) if self.number else 0)
         try:
             table = self.members.table()
@@ -287,6 +293,7 @@ class Logs:
 
     @staticmethod
     def quoted(user: bytes) -> bytes:
+        """Returns a name as a log quotes it."""
         return "".join(chr(byte) if 33 <= byte <= 126 and byte not in b'"\\' else "\\x%02x" % byte
                        for byte in user).encode()
 

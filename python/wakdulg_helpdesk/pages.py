@@ -62,6 +62,7 @@ class Site(web.Pages):
     # ---- Who asks
 
     def is_welcome(self, session: Session) -> bool:
+        """Returns whether the user is staff still."""
         return session.user in self.desk.staff()
 
     def ask(self, user: str, call: Callable[[], wakdulg.Accepted]) -> tuple[Any, tuple[str, int] | None]:
@@ -74,6 +75,7 @@ class Site(web.Pages):
         return self.check_code(user)
 
     def check_code(self, user: str) -> wakdulg.Accepted:
+        """Returns what the cluster accepts of the code of a form, or raises its refusal."""
         return self.cluster.check(user, request.form.get("code", "").strip())
 
     def note_refusal(self, user: str, refusal: wakdulg.Refused) -> None:
@@ -83,6 +85,7 @@ class Site(web.Pages):
     # ---- Who may do what
 
     def rights(self, session: Session) -> frozenset[str]:
+        """Returns the acts that the user of a session may make."""
         return rights_of(self.staff).get(session.user, frozenset())
 
     def places_of(self, session: Session) -> list[tuple[str, str]]:
@@ -259,6 +262,7 @@ class Site(web.Pages):
         return any(line.get("act") == "retire" and line.get("outcome", "").startswith(RETIRED) for line in done)
 
     def second_code(self, session: Session, act: Act) -> tuple[str, int] | None:
+        """Returns the text and the status of a refusal of the second code of staff, or None."""
         outcome, refusal = self.ask(session.user, lambda: self.check_code(session.user))
         if refusal:
             session.alert = self.note(session.user, act.name, act.user, REFUSED + ": the second code")
@@ -333,6 +337,7 @@ class Site(web.Pages):
 
     @staticmethod
     def title_of(asked: Asked) -> str:
+        """Returns the title of an act that waits."""
         titles = {**{act: words[0] for act, words in ACTS.items()}, "import": "Import", "enrol": "Enrol"}
         return "%s: %s" % (titles[asked.act.name], asked.act.user)
 
@@ -341,6 +346,7 @@ class Site(web.Pages):
         return self.page("waiting.html", "What waits for another one of staff", session, waiting=self.waiting.all())
 
     def asked_for(self, session: Session, id: str) -> Asked:
+        """Returns what waits under an id, or stops if nothing does."""
         asked = self.waiting.find(id)
         if asked is None:
             gone = "It was confirmed, or its hour is over."
@@ -388,6 +394,7 @@ class Site(web.Pages):
         return [kept for kept in self.kept() if kept.owner == session.user]
 
     def kept_of(self, session: Session, user: User) -> Kept | None:
+        """Returns the new secret of a user that this browser may see, or None."""
         return next((kept for kept in self.unconfirmed(session) if kept.user == user.text), None)
 
     def show_secret(self, name: str) -> Reply:

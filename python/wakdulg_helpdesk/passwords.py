@@ -39,6 +39,7 @@ class Passwords:
 
     @staticmethod
     def is_of(password: str, known: str) -> bool:
+        """Returns whether a hash is the one of a password."""
         try:
             return bool(HASHER.verify(known, password))
         except (argon2.exceptions.VerificationError, argon2.exceptions.InvalidHash):

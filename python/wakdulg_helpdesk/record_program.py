@@ -14,6 +14,7 @@ from wakdulg_helpdesk.record import check, lines_back, print_of
 
 
 def main() -> None:
+    """Prints what a look at the record found."""
     if len(sys.argv) not in (3, 4) or sys.argv[1] != "check":
         sys.exit(__doc__.split("\n\n")[0])
     path, wanted = sys.argv[2], sys.argv[3:]

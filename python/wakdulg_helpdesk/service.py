@@ -30,6 +30,7 @@ class Worker(ThreadWorker):
     """A process whose threads wait for ten seconds for what a client sends, and no longer."""
 
     def handle(self, conn: Any) -> Any:
+        """Answers a connection."""
         conn.sock.settimeout(10)
         return super().handle(conn)
 
@@ -42,6 +43,7 @@ class Service(BaseApplication):
         super().__init__()
 
     def load_config(self) -> None:
+        """Sets what gunicorn runs by."""
         for name, value in {"workers": 1, "worker_class": "wakdulg_helpdesk.service.Worker", "threads": THREADS,
                             "keepalive": 0, "worker_connections": 2 * THREADS, "backlog": 128, "umask": 0o007,
                             "loglevel": "warning", "limit_request_line": 2048, "limit_request_fields": 20,
@@ -49,6 +51,7 @@ class Service(BaseApplication):
             self.cfg.set(name, value)
 
     def load(self) -> Flask:
+        """Returns the application, after it has begun what runs beside it."""
         # In the process that serves, since a thread isn't in the child of a process.
         self.parts.desk.book.keep_copying()
         self.parts.keeper.remove_old()

@@ -23,6 +23,7 @@ class Session:
         self.imports: dict[str, tuple[list[Token], list[str]]] = {}
 
     def ends(self) -> float:
+        """Returns the second at which the session ends."""
         return min(self.begun + self.longest, self.used + self.idle)
 
     def take_notice(self) -> tuple[str, str]:
@@ -42,6 +43,7 @@ class Sessions:
 
     @staticmethod
     def now() -> float:
+        """Returns the seconds since this machine's start, also those in which it slept."""
         return time.clock_gettime(time.CLOCK_BOOTTIME)
 
     @staticmethod
@@ -50,6 +52,7 @@ class Sessions:
 
     @staticmethod
     def new_name() -> str:
+        """Returns an id that nobody guesses."""
         return secrets.token_urlsafe(32)
 
     def begin(self, user: str, row: bytes = b"", factor: int | None = None, notice: str = "") -> str:
@@ -73,6 +76,7 @@ class Sessions:
             return kept
 
     def end(self, name: str) -> None:
+        """Ends the session of an id, if there is one."""
         with self._lock:
             self._kept.pop(self._key(name), None)
 

@@ -14,6 +14,7 @@ from wakdulg_helpdesk.staff import ROLES
 
 
 def read_password() -> str:
+    """Returns the password that somebody types, or the first line of standard input."""
     if not sys.stdin.isatty():
         return sys.stdin.readline().rstrip("\n")
     password = getpass.getpass("Password: ")
@@ -23,6 +24,7 @@ def read_password() -> str:
 
 
 def main() -> None:
+    """Prints the line."""
     name, *role = sys.argv[1:] or [""]
     if name.split() != [name] or name.startswith(("-", "#")) or len(role) > 1 or not ROLES.keys() >= set(role):
         sys.exit(__doc__.split("\n\n")[0])

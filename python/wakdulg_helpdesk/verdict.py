@@ -33,6 +33,7 @@ def lasting(seconds: int) -> str:
 
 
 def at_time(second: int) -> str:
+    """Returns the time of a second."""
     return time.strftime("%H:%M:%S UTC", time.gmtime(second))
 
 
@@ -58,6 +59,7 @@ class Look:
         return "".join("; " + part for part in (*parts, said) if part) + "."
 
     def opens(self, states: Sequence[State]) -> str:
+        """Returns when the first of these members opens the token."""
         first = min(states, key=lambda state: state.until)
         return "opens in %s" % lasting(first.until - self.now)
 

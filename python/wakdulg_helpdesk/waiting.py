@@ -28,6 +28,7 @@ class Waiting:
         self._lock = threading.Lock()
 
     def add(self, who: str, act: Act) -> Asked:
+        """Lets an act wait, and returns it as it waits."""
         asked = Asked(secrets.token_urlsafe(9), who, act, time.time() + LONGEST)
         with self._lock:
             self._asked[asked.id] = asked
@@ -40,6 +41,7 @@ class Waiting:
             return list(self._asked.values())
 
     def find(self, id: str) -> Asked | None:
+        """Returns the act of an id, or None if it waits no more."""
         return next((asked for asked in self.all() if asked.id == id), None)
 
     def take(self, id: str) -> Asked:

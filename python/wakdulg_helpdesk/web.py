@@ -71,6 +71,7 @@ class Request(flask.Request):
 
 
 def address() -> str:
+    """Returns the address from which a request comes, as nginx says."""
     return request.headers.get("X-Real-IP", "-")
 
 
@@ -120,6 +121,7 @@ class Pages:
         return ""
 
     def cookie(self) -> str:
+        """Returns the value of the one cookie of ours that the browser sent, or ""."""
         names = self.sessions.names_in(request.headers.get("Cookie", ""))
         return names[0] if len(names) == 1 else ""
 
@@ -130,6 +132,7 @@ class Pages:
         return session if session and self.is_welcome(session) else None
 
     def own_session(self, is_used: bool = True) -> Session:
+        """Returns the session of the browser, or stops with the way to the login."""
         session = self.session(is_used)
         if session is None:
             raise Stop(redirect(login_path(), 303) if request.method == "GET" else
@@ -231,6 +234,7 @@ class Pages:
         return "", 303
 
     def by_whom(self) -> str:
+        """Returns who replaced a phone, as its user is told."""
         return self.by
 
     def tell(self, user: str, what: str) -> None:
@@ -306,9 +310,11 @@ class Pages:
         return answer
 
     def show_login(self, fault: str = "", status: int = 200) -> Answer:
+        """Shows the form of a login, which leads to the page that was asked for."""
         return self.open_page("login.html", "Log in", status, fault=fault, next=own_path(request.values.get("next")))
 
     def log_in(self) -> Answer:
+        """Answers the form of a login."""
         if not self.is_own_form():
             return self.show_login(FOREIGN, 403)
         user = request.form.get("user", "")
@@ -336,6 +342,7 @@ class Pages:
         return answer
 
     def log_out(self) -> Answer:
+        """Answers the form of a logout."""
         session = self.posted()
         self.note(session.user, "log out", "", "done")
         return self.end_session(redirect("/login", 303))
@@ -348,6 +355,7 @@ class Pages:
         return answer
 
     def set_cookie(self, answer: Answer, name: str) -> None:
+        """Gives the browser a cookie that no script reads, and that no other site sends."""
         answer.set_cookie(self.sessions.cookie, name, path="/", secure=True, httponly=True, samesite="Strict")
 
 
@@ -364,6 +372,7 @@ def login_path() -> str:
 
 
 def at_moment(seconds: float) -> str:
+    """Returns a moment as pages have it."""
     return time.strftime("%Y-%m-%d %H:%M:%S UTC", time.gmtime(seconds))
 
 
@@ -392,9 +401,11 @@ def make_application(site: Pages, routes: Sequence[Route]) -> Flask:
 
 
 def answer_of(stop: Stop) -> Reply:
+    """Returns the answer that stands in place of a page."""
     return stop.answer
 
 
 def with_headers(answer: Answer) -> Answer:
+    """Returns an answer with what each one has."""
     answer.headers.update(HEADERS)
     return answer

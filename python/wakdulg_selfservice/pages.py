@@ -34,10 +34,12 @@ TOO_MANY = "You replaced the phone %d times within a day. Ask your helpdesk." % 
 
 
 def field(name: str) -> str:
+    """Returns a field of the form, or ""."""
     return request.form.get(name, "")
 
 
 def code(name: str) -> str:
+    """Returns a field that has a code."""
     return field(name).strip()
 
 
@@ -74,6 +76,7 @@ class Site(web.Pages):
         return self.row_of(session.user) == session.row != b""
 
     def own_user(self, session: Session) -> User:
+        """Returns the user of a session, or stops with the way to the login."""
         user = self.user_of(session.user)
         if user is None:
             raise web.Stop(redirect("/login", 303))
