@@ -526,3 +526,4 @@ class Pages(Case):
         with mock.patch.multiple("tempfile", SpooledTemporaryFile=None, TemporaryFile=None, NamedTemporaryFile=None):
             with application.test_request_context(method="POST", data={"file": (io.BytesIO(data), "list.csv")}):
                 self.assertTrue(flask.request.files["file"].read() == data)
+                flask.request.environ["wsgi.input"].close()
