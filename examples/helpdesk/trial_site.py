@@ -214,16 +214,19 @@ class Site:
         words = self.desk / "users", self.folder / "made", self.folder / "hold", push
         return "sh -c 'cp %s %s/$(date +%%s%%N); while [ -e %s ]; do sleep 0.1; done; exec %s'" % words
 
+    def as_desk(self):
+        """Returns whom the service runs as, in the words of subprocess."""
+        return {"user": "nobody", "group": "www-data", "extra_groups": []} if IS_ROOT else {}
+
     def start_desk(self, *more_words):
         words = [*self.desk_words(), *more_words, "--key-file", "7:%s" % (self.desk / "front.key"), "--issuer",
                  "Example Site", "--push", self.push(), "--patience", "60"]
         for name in "cluster", "users", "staff", "record":
             words += ["--" + name, self.desk / name]
-        more = {"user": "nobody", "group": "www-data", "extra_groups": []} if IS_ROOT else {}
         out, faults = (open(self.folder / name, "ab") for name in ("logins", "faults"))
         words += [self.desk / "socket", self.url]
         self.processes["desk"] = subprocess.Popen(list(map(str, words)), stdout=out, stderr=faults, cwd="/",
-                                                  env={**os.environ, "OATHD": OATHD}, **more)
+                                                  env={**os.environ, "OATHD": OATHD}, **self.as_desk())
 
     def start_nginx(self):
         nginx = shutil.which("nginx", path=os.environ["PATH"] + ":/usr/sbin")

@@ -81,13 +81,13 @@ class Test:
 
     def off(self):
         """Without its own word nothing starts, and only the acts that are named are there."""
-        words = [PROGRAM, "--key-file", "7:%s" % (self.site.folder / "front.key"), "--issuer", "Example"]
+        words = [PROGRAM, "--key-file", "7:%s" % (self.site.desk / "front.key"), "--issuer", "Example"]
         for name in "cluster", "users", "staff", "record":
             words += ["--" + name, self.site.desk / name]
-        ends = [self.site.folder / "other-socket", self.site.url]
-        done = subprocess.run(list(map(str, words + ends)), capture_output=True, text=True, timeout=60)
+        ends, more = [self.site.desk / "other-socket", self.site.url], self.site.as_desk()
+        done = subprocess.run(list(map(str, words + ends)), capture_output=True, text=True, timeout=60, **more)
         expect("without --allow", (done.returncode, "required: --allow" in done.stderr), (2, True))
-        process = subprocess.Popen(list(map(str, words + ["--allow", "resync"] + ends)), stderr=subprocess.DEVNULL)
+        process = subprocess.Popen(list(map(str, words + ["--allow", "resync"] + ends)), stderr=subprocess.DEVNULL, **more)
         self.site.await_that(ends[0].exists, "it has its socket")
         told = [subprocess.run(["curl", "-s", "-o", "/dev/null", "-w", "%{http_code}", "--unix-socket", ends[0],
                                 "http://any" + path], capture_output=True, text=True).stdout

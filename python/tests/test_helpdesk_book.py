@@ -4,6 +4,7 @@ OATHD is the program, else ./oathd of the checkout.
 """
 from __future__ import annotations
 
+import errno
 import os
 import shutil
 import signal
@@ -13,6 +14,7 @@ import time
 import unittest
 from pathlib import Path
 from typing import Any
+from unittest import mock
 
 from tests.cases import InFolder
 from wakdulg_helpdesk.acts import Desk
@@ -197,6 +199,44 @@ class Copies(Case):
         book = self.book(push=None)
         told = book.change(with_row(b"user1", user_in(book, b"user1").mark, b""))
         self.assertEqual((told, book.pending()), ((False, "no --push copies the file to the members"), None))
+
+    def test_a_copy_by_another_site(self) -> None:
+        """A site without a hook marks what it changes, and waits for the site that copies it, without the lock."""
+        other = Book("users", OATHD, ClusterFile("cluster"), None, "the helpdesk")
+        other.WAIT = 1
+        told = other.change(with_row(b"user1", user_in(other, b"user1").mark, b""))
+        said = "the helpdesk hasn't copied the file yet"
+        self.assertEqual((told, other.pending() is not None), ((False, said), True))
+        other.keep_copying()
+        book, other.WAIT = self.book(), 60
+        book.keep_copying()
+        self.await_that("copied at the start of the other one", other.pending, None)
+        begin = time.monotonic()
+        told = other.change(with_row(b"user2", user_in(other, b"user2").mark, b""))
+        self.assertEqual((told, self.has_copy(), b"user2" in Path("copy").read_bytes()), ((True, ""), True, False))
+        self.assertLess(time.monotonic() - begin, book.PAUSE, "sooner than a copy that failed is made again")
+
+    def test_several_users_write_the_file(self) -> None:
+        """Each user of the group writes a file that the group reads and writes, whoever owns it. Else the owner stays,
+        or nothing is written."""
+        for mode, is_taken in (0o660, True), (0o640, False), (0o600, False), (0o620, False):
+            Path("users").chmod(mode)
+            text = Path("users").read_bytes() + b"# mode %o\n" % mode
+            for number in errno.EPERM, errno.EINVAL:
+                file = UsersFile("users", create=False)
+                assert file.before
+                fields = list(file.before)
+                fields[4] += 1
+                file.before = os.stat_result(fields)
+                with mock.patch("os.fchown", side_effect=OSError(number, "no")), \
+                        mock.patch.object(file, "check_unchanged"):
+                    if is_taken:
+                        file.replace(text)
+                    else:
+                        with self.assertRaises(OSError):
+                            file.replace(text)
+                is_new = Path("users").read_bytes() == text
+                self.assertEqual((is_new, os.stat("users").st_mode & 0o777), (is_taken, mode))
 
     def test_a_file_with_a_fault(self) -> None:
         """A pending file that has a fault by hand isn't copied."""

@@ -103,10 +103,14 @@ class Book:
     # A pending file is copied again after this number of seconds, and after four times those that the hook took: acts
     # wait for the hook.
     PAUSE = 15
+    # How long an act waits for the copy by another site, and how often a site looks for the mark of another one.
+    WAIT, LOOK = 20, 0.5
 
-    def __init__(self, path: str, oathd: str, file: ClusterFile, push: str | None) -> None:
+    def __init__(self, path: str, oathd: str, file: ClusterFile, push: str | None, copier: str = "") -> None:
         # The folder of the copy without the key lives as long as the file is kept.
         self.path, self.oathd, self.file, self.push = path, oathd, file, shlex.split(push or "")
+        # What else copies the file, if this site has no hook.
+        self.copier = "" if self.push else copier
         self.cluster, self.names = file.keyless, file.names
         self.mark, self.said = os.path.realpath(path) + ".pending", ""
         self.stamp: tuple[int, int, int] | None = None
@@ -184,16 +188,27 @@ class Book:
 
     def change(self, edit: Edit) -> tuple[bool, str]:
         """Puts the text that `edit` makes of the file in its place, and has it copied to the members. Returns whether
-        that succeeded, and what the hook said. The lock is held meanwhile."""
+        that succeeded, and what the hook said. The lock is held meanwhile, unless another site copies the file."""
         with self.lock():
             users = UsersFile(self.path, create=False)
             text = edit(users)
             self.check(text)
-            if self.push:
+            if self.push or self.copier:
                 self.set_mark()
             users.replace(text)
             self.refresh()
-            return self.copy()
+            if not self.copier:
+                return self.copy()
+        return self.await_copy()
+
+    def await_copy(self) -> tuple[bool, str]:
+        """Waits for the site that copies the file. Returns whether it did that, and else what a page says."""
+        end = time.monotonic() + self.WAIT
+        while self.pending() is not None:
+            if time.monotonic() > end:
+                return False, "%s hasn't copied the file yet" % self.copier
+            time.sleep(0.2)
+        return True, ""
 
     def copy(self) -> tuple[bool, str]:
         """Has the hook copy the file. The file is no longer pending if that succeeded."""
@@ -233,13 +248,21 @@ class Book:
             self.said = str(fault)
 
     def keep_copying(self) -> None:
-        """Copies a pending file until all members have it, in a thread that ends with the process."""
+        """Copies a pending file until all members have it, in a thread that ends with the process. A site without a
+        hook leaves that to another one."""
         def keep() -> None:
             while True:
                 begin = time.monotonic()
                 self.copy_pending()
-                time.sleep(self.PAUSE + 4 * (time.monotonic() - begin))
-        threading.Thread(target=keep, daemon=True).start()
+                self.await_mark(self.PAUSE + 4 * (time.monotonic() - begin))
+        if not self.copier:
+            threading.Thread(target=keep, daemon=True).start()
+
+    def await_mark(self, seconds: float) -> None:
+        """Waits for some seconds, or until another site sets a mark."""
+        end, seen = time.monotonic() + seconds, self.pending()
+        while (left := end - time.monotonic()) > 0 and (seen is not None or self.pending() is None):
+            time.sleep(min(self.LOOK, left))
 
 
 def run_hook(words: list[str], patience: float, text: str = "") -> tuple[bool, str]:

@@ -7,8 +7,8 @@
 SOCKET is the path of a unix socket, to which only nginx may connect: the service believes its X-Real-IP. ORIGIN is the
 site as a browser names it, `https://helpdesk.example`. --key-file is the key of a client of the cluster, and --operator
 the file of an operator of it: they are the only keys that the helpdesk has. The line of the key in the cluster file is
-not read. --users is the users file, of which the helpdesk is the one writer beside `onboard`. --push is a command that
-copies it to the members, as push-users does. --tell is a command that tells a user of a new phone: it has the name and
+not read. --users is the users file, which the self-service and `onboard` write too. --push is a command that copies
+it to the members, as push-users does. --tell is a command that tells a user of a new phone: it has the name and
 a sentence as two lines of standard input. --staff has a name, the hash of a password and a role on each line, as
 staff-line makes them. --record is the file of what staff did. --log names the log of member I on this host.
 --two-of-staff: to replace a phone and to import a file wants another one of staff, who confirms. --acts (60) is how
@@ -24,10 +24,9 @@ import argparse
 from flask import Flask
 
 from wakdulg_helpdesk.cluster_file import ClusterFile
-from wakdulg_helpdesk.keeping import Keeper
 from wakdulg_helpdesk.members import Logs, Members, Table
 from wakdulg_helpdesk.pages import Site, make_application
-from wakdulg_helpdesk.service import Service, oathd, parser_of, parts_of
+from wakdulg_helpdesk.service import Service, keeper_of, oathd, parser_of, parts_of
 from wakdulg_helpdesk.sessions import Sessions
 from wakdulg_helpdesk.staff import check_staff
 
@@ -60,7 +59,7 @@ def main() -> None:
         file = ClusterFile(words.cluster)
         members = Members(file, words.operator, oathd(), words.patience)
         sessions = Sessions("helpdesk", idle=15 * 60, longest=4 * 3600)
-        parts = parts_of(words, file, sessions, Keeper(words.users, "helpdesk", longest=3600), members)
+        parts = parts_of(words, file, sessions, keeper_of(words, "helpdesk", longest=3600), members)
     except (ValueError, OSError) as fault:
         parser.error(str(fault))
     table, logs = Table(members), Logs(dict(words.log))

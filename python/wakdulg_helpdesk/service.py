@@ -17,6 +17,7 @@ from wakdulg_helpdesk.book import Book
 from wakdulg_helpdesk.cluster_file import ClusterFile
 from wakdulg_helpdesk.keeping import Keeper
 from wakdulg_helpdesk.members import Members
+from wakdulg_helpdesk.places import check_places
 from wakdulg_helpdesk.record import Record
 from wakdulg_helpdesk.sessions import Sessions
 from wakdulg_helpdesk.staff import staff_of
@@ -63,6 +64,13 @@ def oathd() -> str:
     return os.environ.get("OATHD", "oathd")
 
 
+def keeper_of(words: argparse.Namespace, site: str, longest: float) -> Keeper:
+    """Returns the kept secrets of a site. They lie beside its record, since several sites may have the folder of the
+    users file."""
+    folder = os.path.dirname(os.path.realpath(words.record))
+    return Keeper(os.path.join(folder, os.path.basename(words.users)), site, longest)
+
+
 def parser_of(program: str, usage: str) -> argparse.ArgumentParser:
     """Returns a parser of the words that each site has."""
     parser = argparse.ArgumentParser(program, usage, allow_abbrev=False)
@@ -77,11 +85,13 @@ def parser_of(program: str, usage: str) -> argparse.ArgumentParser:
 
 
 def parts_of(words: argparse.Namespace, file: ClusterFile, sessions: Sessions, keeper: Keeper,
-             members: Members | None = None) -> Parts:
-    """Returns what the words of a site name, and begins its log. Raises ValueError or OSError if a file is wrong."""
+             members: Members | None = None, copier: str = "") -> Parts:
+    """Returns what the words of a site name, and begins its log. `copier` is the site that copies the users file if the
+    words have no hook. Raises ValueError or OSError if a file is wrong, or is open to others."""
+    check_places(words.users, words.cluster, words.staff, words.record)
     pauses = words.patience / 8, words.patience * 5 / 16
     cluster = wakdulg.Cluster(file.nodes, pauses, words.patience, key=wakdulg.read_key(words.key_file))
-    book = Book(words.users, oathd(), file, words.push)
+    book = Book(words.users, oathd(), file, words.push, copier)
     desk = Desk(book, members, cluster, staff_of(words.staff), words.issuer)
     record = Record(words.record)
     # A line that can't be written is lost, and holds up no login.

@@ -120,6 +120,10 @@ class Pages:
         """Returns what the first page after a login says."""
         return ""
 
+    def about_login(self, user: str) -> dict[str, str]:
+        """Returns what the record has of a login beside its fields."""
+        return {}
+
     def cookie(self) -> str:
         """Returns the value of the one cookie of ours that the browser sent, or ""."""
         names = self.sessions.names_in(request.headers.get("Cookie", ""))
@@ -328,7 +332,7 @@ class Pages:
         """Begins a session under a new id: one that somebody planted before the login is worth nothing. What this
         browser may see still goes with it."""
         notice = self.greeting(user)
-        if self.note(user, "log in", "", "done"):
+        if self.note(user, "log in", "", "done", **self.about_login(user)):
             return self.show_login(NOT_IN, 503)
         name = self.sessions.begin(user, self.row_of(user), accepted.factor, notice)
         try:

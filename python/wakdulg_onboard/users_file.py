@@ -12,6 +12,9 @@ from typing import Iterator, Sequence
 
 from wakdulg_onboard.tokens import SERIAL, Fault, Row, read_rows
 
+# The mode of a file that its group reads and writes.
+SHARED = stat.S_IRGRP | stat.S_IWGRP
+
 
 class UsersFile:
     """A users file that one process at a time may change. Its path is that of the file and not of a link to it."""
@@ -96,15 +99,19 @@ class UsersFile:
         """Gives an open file the owner, the group and the mode of the file before.
 
         # Errors
-        Raises `PermissionError` if this process may not, but for a group that may do nothing with the file.
+        Raises `OSError` if this process may not, but for a group that may do nothing with the file, and for the owner
+        of a file that its group reads and writes.
         """
         made = os.fstat(file)
         if (made.st_uid, made.st_gid) != (before.st_uid, before.st_gid):
             try:
                 os.fchown(file, before.st_uid, before.st_gid)
-            except PermissionError:
+            except OSError:
                 # A group that may do nothing with the file need not be kept, and a service isn't in that of its user.
-                if made.st_uid != before.st_uid or before.st_mode & stat.S_IRWXG:
+                # If several users write a file by its group, which their folder gives to new files, any may own it.
+                is_unused = made.st_uid == before.st_uid and not before.st_mode & stat.S_IRWXG
+                is_shared = made.st_gid == before.st_gid and before.st_mode & SHARED == SHARED
+                if not is_unused and not is_shared:
                     raise
         os.fchmod(file, stat.S_IMODE(before.st_mode))
 

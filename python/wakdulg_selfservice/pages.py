@@ -27,6 +27,8 @@ TOO_LATE = "For %d seconds the cluster accepted no code of the new phone. Look w
 MOST_A_DAY, DAY = 3, 24 * 3600
 # How far back the record is read for what a user is told at a login.
 GREETING = 90 * DAY
+# The record of this site has no replacement by the helpdesk, if that has a record of its own: the token tells.
+GREETED_SINCE = "Your helpdesk gave you another phone after %s. If you didn't ask for it, tell your helpdesk now."
 GREETED = "Your phone was replaced at %s %s. If that was neither you nor asked for by you, tell your helpdesk now."
 # The outcomes of replacements that may have changed the row.
 REPLACED = (BEGINS, "replaced the token", "the users file is changed")
@@ -157,7 +159,7 @@ class Site(web.Pages):
             if told:
                 self.note_replacement(act.user, "refused: %s" % outcome)
                 return told
-        fault, status = self.carry_out(session, act)
+        fault, status = self.carry_out(session, act, token=act.adds)
         # The page of the new phone says what is to be said.
         session.notice = ""
         if known and not fault:
@@ -179,13 +181,26 @@ class Site(web.Pages):
 
     def greeting(self, user: str) -> str:
         """Tells what happened to the user's phone since the last login here, as far as the record has it."""
+        token = self.token_of(user)
         for line in self.record.acts(time.time() - GREETING, user):
-            if line.get("who") == user and (line.get("act"), line.get("outcome")) == ("log in", "done"):
+            is_login = line.get("who") == user and (line.get("act"), line.get("outcome")) == ("log in", "done")
+            if not is_login and not is_replacement(line, user):
+                continue
+            if line.get("outcome") != BEGINS and line.get("token", token) != token:
+                return GREETED_SINCE % web.moment_of(line)
+            if is_login:
                 break
-            if is_replacement(line, user):
-                here = "on this page, from the address %s" % line.get("from", "")
-                return GREETED % (web.moment_of(line), here if line.get("who") == user else "by your helpdesk")
+            here = "on this page, from the address %s" % line.get("from", "")
+            return GREETED % (web.moment_of(line), here if line.get("who") == user else "by your helpdesk")
         return ""
+
+    def token_of(self, name: str) -> str:
+        """Returns the name of a user's token, or "" for a user who isn't served."""
+        user = self.user_of(name)
+        return (user.token or b"").decode() if user else ""
+
+    def about_login(self, user: str) -> dict[str, str]:
+        return {"token": self.token_of(user)}
 
     def note_replacement(self, user: str, outcome: str) -> str:
         return self.note(user, "replace", user, outcome)

@@ -4,11 +4,12 @@
                  --issuer NAME [--push COMMAND] [--tell COMMAND] [--patience SECONDS] [--late SECONDS] SOCKET ORIGIN
 
 ACT is `resync` or `replace`, and without one nothing starts: whoever has a phone and its password for a minute can take
-the token for good by `replace`. Only users with a password in the users file are served, and none of --staff. All other
-words are as for `helpdesk`, whose modules it takes, but for an operator's key, which it hasn't. It may run beside the
-helpdesk over the same users file and the same record. --late (120): if no code of a new phone was accepted for this
-time, the page says that something is wrong. OATHD is the program, else oathd. docs/how-to/self-service.md
-shows it.
+the token for good by `replace`. Only users with a password in the users file are served, and none of --staff, of which
+it reads the first word of each line. All other words are as for `helpdesk`, whose modules it takes. An operator's key
+it hasn't. It may run beside the helpdesk over the same users file, as another user with files of its own.
+Without --push the helpdesk copies the users file: it does so when the mark `users.pending` appears. --late (120): if no
+code of a new phone was accepted for this time, the page says that something is wrong. OATHD is the program, else oathd.
+docs/how-to/self-service.md shows it.
 
 Packages: python3-flask, python3-cryptography, gunicorn, qrencode. Each answer of the cluster is a line of standard
 output.
@@ -18,8 +19,7 @@ from __future__ import annotations
 from flask import Flask
 
 from wakdulg_helpdesk.cluster_file import ClusterFile
-from wakdulg_helpdesk.keeping import Keeper
-from wakdulg_helpdesk.service import Service, parser_of, parts_of
+from wakdulg_helpdesk.service import Service, keeper_of, parser_of, parts_of
 from wakdulg_helpdesk.sessions import Sessions
 from wakdulg_selfservice.pages import Site, make_application
 
@@ -32,8 +32,8 @@ def main() -> None:
     words = parser.parse_args()
     try:
         sessions = Sessions("self-service", idle=5 * 60, longest=10 * 60)
-        keeper = Keeper(words.users, "self-service", longest=10 * 60)
-        parts = parts_of(words, ClusterFile(words.cluster), sessions, keeper)
+        keeper = keeper_of(words, "self-service", longest=10 * 60)
+        parts = parts_of(words, ClusterFile(words.cluster), sessions, keeper, copier="the helpdesk")
     except (ValueError, OSError) as fault:
         parser.error(str(fault))
 
