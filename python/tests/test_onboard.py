@@ -243,6 +243,12 @@ class Csv(Case):
         self.assertEqual(self.run_it("csv", file, "--part")[2], 0)
         self.assertEqual(sorted(self.rows()), ["ann", "bob"])
 
+    def test_a_column_of_passwords(self) -> None:
+        """Passwords aren't lost in silence: the row would have none, and a code alone would let in."""
+        file = self.put("v.csv", "User,Password,secret,type\nbob,a-word,%s,hotp\n" % ("31" * 20))
+        said = self.refused("Password", "csv", file)
+        self.assertIn("v.csv line 1: Password: the column password would be lost", said)
+
     def test_one_secret_for_two_users(self) -> None:
         """A vendor's file in upper case, and one that fills the secret with zeros, have the same device."""
         words = "--columns", "secret,user", "--type", "hotp"

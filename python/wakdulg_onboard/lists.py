@@ -67,9 +67,12 @@ def places_of(header: Sequence[str], named: Mapping[str, str], place: str) -> di
     """Returns the column of each field: the one whose header has the name given for it, or its own.
 
     # Errors
-    Raises `Fault` if no column has a name that is given.
+    Raises `Fault` if no column has a name that is given, or if one has passwords, which rows would lack.
     """
     header, places = [cell.lower() for cell in header], {}
+    if "password" in header:
+        raise Fault(place, "Password", "the column password would be lost: take it out, and write each password into "
+                                       "its row afterwards")
     for field in FIELDS:
         name = named.get(field, field).lower()
         if name in header:
