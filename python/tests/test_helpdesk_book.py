@@ -5,11 +5,13 @@ OATHD is the program, else ./oathd of the checkout.
 from __future__ import annotations
 
 import errno
+import functools
 import os
 import shutil
 import signal
 import subprocess
 import sys
+import threading
 import time
 import unittest
 from pathlib import Path
@@ -215,6 +217,24 @@ class Copies(Case):
         told = other.change(with_row(b"user2", user_in(other, b"user2").mark, b""))
         self.assertEqual((told, self.has_copy(), b"user2" in Path("copy").read_bytes()), ((True, ""), True, False))
         self.assertLess(time.monotonic() - begin, book.PAUSE, "sooner than a copy that failed is made again")
+
+    def test_a_hook_that_hangs(self) -> None:
+        """An act waits for another one as long as for the lock of the folder, and no longer."""
+        book = self.book("sh -c 'touch began; while [ ! -e over ]; do sleep 0.1; done'")
+        edit = with_row(b"user2", user_in(book, b"user2").mark, b"")
+        first = threading.Thread(target=lambda: book.change(with_row(b"user1", user_in(book, b"user1").mark, b"")))
+        first.start()
+        self.await_that("the hook began", Path("began").exists)
+        begin = time.monotonic()
+        with mock.patch.object(Book, "lock", functools.partialmethod(Book.lock, patience=1)):
+            with self.assertRaisesRegex(Fault, "Locked: another change is being copied"):
+                book.change(edit)
+        self.assertLess(time.monotonic() - begin, 20, "it doesn't wait for the hook")
+        self.assertIn("user2", rows(), "nothing is done")
+        Path("over").touch()
+        first.join()
+        is_done, _ = book.change(edit)
+        self.assertEqual((is_done, "user2" in rows()), (True, False), "and the lock is free again")
 
     def test_several_users_write_the_file(self) -> None:
         """Each user of the group writes a file that the group reads and writes, whoever owns it. Else the owner stays,

@@ -25,6 +25,7 @@ if TYPE_CHECKING or HAS_PACKAGES and HAS_ARGON2:
     import argon2
     import flask
 
+    import wakdulg
     from tests.fake_site import ORIGIN, Browser, Killed, Table, left, parts_of, secret_of
     from wakdulg_helpdesk import pages, web
     from wakdulg_helpdesk.book import Book
@@ -431,6 +432,16 @@ class Logins(Case):
         self.assertEqual(told, [(who, "log in", "refused: " + why, "192.0.2.9") for who, why in wanted])
         self.assertNotIn("my own", Path("record").read_text(), "no name that may be a password")
 
+    def test_the_log_of_logins(self) -> None:
+        """The log has the names of staff alone: another one may be a password in the wrong field."""
+        browser = Browser(Site().application)
+        with self.assertLogs("trial", "INFO") as log:
+            for user in "my own password", "ann", "sam":
+                browser.ask("/login").send("/login", user=user, password=PASSWORD, code="999999")
+        told = [line.split("from=")[1] for line in log.output]
+        wanted = ['not staff user=""', 'not staff user=""', 'INVALID user="sam"']
+        self.assertEqual(told, ["192.0.2.9 " + line for line in wanted])
+
 
 class Pages(Case):
     def test_the_verdict_and_the_lists(self) -> None:
@@ -508,6 +519,19 @@ class Pages(Case):
         sam.ask("/enrol").send("/enrol", name="n ew", kind="hotp")
         kept = 'value="n ew"' in sam.page, 'value="hotp" checked' in sam.page
         self.assertEqual(kept, (True, True), "the form keeps what was typed")
+
+    def test_a_password_of_a_user(self) -> None:
+        """A user with a password is resynchronized too: the line has the password of the row."""
+        Path("users").write_text(rows_of(*STAFF, "ann") + "HOTP bob a-word-of-bob %040x\n" % 9)
+        site = Site()
+        sam = site.log_in()
+        site.cluster.resync = mock.Mock(return_value=wakdulg.Accepted(41))
+        for name in "ann", "bob":
+            site.act(sam, name, "resync", first="000001", second="000002")
+            self.assertEqual((sam.status, outcomes()[0]), (303, "resynchronized at factor 41"), name)
+        asked = [call.args for call in site.cluster.resync.call_args_list]
+        self.assertEqual(asked, [("ann", "000001", "000002", None), ("bob", "000001", "000002", "a-word-of-bob")])
+        self.assertNotIn("a-word-of-bob", Path("record").read_text())
 
     def test_the_record_of_acts(self) -> None:
         """The lines of acts follow each other, and the page has each act once."""

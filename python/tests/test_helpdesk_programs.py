@@ -8,7 +8,7 @@ import subprocess
 import unittest
 from pathlib import Path
 
-from tests.cases import InFolder
+from tests.cases import CLUSTER, InFolder
 
 TOP = Path(__file__).resolve().parents[2]
 PYTHON = TOP / "python"
@@ -88,6 +88,25 @@ class Programs(InFolder):
             self.assertTrue((printed + told).startswith(said), printed + told)
         status, _, told = self.run_it(DEBIANS_PYTHON, "-m", "wakdulg_helpdesk", **environment)
         self.assertEqual((status, told), (99, "a module of a stranger\n"), "else the test shows nothing")
+
+    @NEEDS_ALL
+    def test_files_that_others_may_read(self) -> None:
+        """A site doesn't start while others may read one of its files. It says which, and what to do."""
+        line = self.staff_line("sam")[1]
+        for name, text in (("cluster", CLUSTER), ("users", ""), ("staff", line), ("record", ""),
+                           ("front.key", "0c" * 32), ("operator", "operator 900 " + "0c" * 32)):
+            Path(name).write_text(text)
+            Path(name).chmod(0o600)
+        words = ["--key-file", "7:front.key", "--cluster", "cluster", "--users", "users", "--staff", "staff",
+                 "--record", "record", "--issuer", "Site", "none/socket", "https://site.example"]
+        programs = ("wakdulg-helpdesk", "--operator", "operator"), ("wakdulg-self-service", "--allow", "resync")
+        for program, *more in programs:
+            for name in "users", "staff", "record", "front.key":
+                Path(name).chmod(0o604)
+                status, _, told = self.run_it(self.lib / program, *more, *words)
+                Path(name).chmod(0o600)
+                self.assertEqual((status, "others may read" in told, "chmod" in told), (2, True, True), told)
+                self.assertIn(name, told.rpartition("chmod")[2])
 
     @NEEDS_ARGON2
     def test_a_line_of_staff(self) -> None:

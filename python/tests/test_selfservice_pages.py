@@ -93,6 +93,20 @@ class Pages(OverSite):
         self.assertEqual(done[:2] + [done[-1][:8]],
                          ["the new phone is in use", "not confirmed after N s: PASSWORD", "replaced"], "the record")
 
+    def test_a_session_alone(self) -> None:
+        """A session replaces no phone without the password and the next code of the old one."""
+        site = Site()
+        ann, before = site.log_in(), secret_of("ann")
+        for what, fields in (("neither", {"password": "", "code": ""}), ("no password", {"password": ""}),
+                             ("a wrong password", {"password": "wrong"}), ("no code", {"code": ""}),
+                             ("a wrong code", {"code": "999999"}), ("the code of the login", {"code": "000000"})):
+            site.replace(ann, **fields)
+            self.assertEqual((ann.status, secret_of("ann"), left()), (403, before, []), what)
+        ann.ask("/replace").send("/replace")
+        self.assertEqual((ann.status, secret_of("ann")), (403, before), "a form without both fields")
+        site.replace(ann)
+        self.assertEqual((ann.status, secret_of("ann") != before), (303, True), "else the trial shows nothing")
+
     def test_the_end_of_a_secret(self) -> None:
         """The secret is gone after a logout, after ten minutes, and when the helpdesk replaces the phone."""
         for what in "logout", "ten minutes", "another row":

@@ -125,12 +125,14 @@ class Desk:
     def resync(self, user: User, form: Form) -> Act:
         """Gives the cluster two codes in a row of the user's token."""
         codes = read_codes(form)
-        return Act("resync", user.text, lambda: self.resynchronized(user.text, *codes))
+        return Act("resync", user.text, lambda: self.resynchronized(user, *codes))
 
-    def resynchronized(self, name: str, first: str, second: str) -> str:
-        """Resynchronizes a token, and returns what the cluster said."""
+    def resynchronized(self, user: User, first: str, second: str) -> str:
+        """Resynchronizes a token, and returns what the cluster said. Nodes want the password that the row has."""
+        row = row_in(UsersFile(self.book.path, create=False), user.name)
+        password = row.password.decode("utf-8", "surrogateescape") if user.has_password else None
         try:
-            return "resynchronized at factor %d" % self.cluster.resync(name, first, second).factor
+            return "resynchronized at factor %d" % self.cluster.resync(user.text, first, second, password).factor
         except wakdulg.Refused as refusal:
             raise Fault("the cluster", "refused", str(refusal)) from None
 

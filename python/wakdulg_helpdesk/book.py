@@ -161,9 +161,12 @@ class Book:
 
     @contextlib.contextmanager
     def lock(self, patience: float = 20) -> Iterator[None]:
-        """Holds the lock of the folder. Another writer, as `onboard`, may have it for a while."""
+        """Holds the lock of the folder, or raises a fault if it isn't free within `patience` seconds. Another writer,
+        as `onboard`, may have it for a while, and so may another act, whose hook may hang."""
         end = time.monotonic() + patience
-        with self.writing:
+        if not self.writing.acquire(timeout=patience):
+            raise Fault("the users file", "Locked", "another change is being copied to the members; try again")
+        try:
             while True:
                 try:
                     held = lock_beside(self.path)
@@ -177,6 +180,8 @@ class Book:
                 yield
             finally:
                 held.__exit__(None, None, None)
+        finally:
+            self.writing.release()
 
     def check(self, text: bytes) -> None:
         """Raises a fault if oathd doesn't take the text of a users file."""
