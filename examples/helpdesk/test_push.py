@@ -230,7 +230,7 @@ def stalled(hosts):
 
 
 def end_hook(process):
-    from book import end_group
+    from wakdulg_helpdesk.book import end_group
     end_group(process, 2)
 
 

@@ -273,8 +273,9 @@ class Copies(Case):
 
     def test_a_slow_hook(self) -> None:
         """A hook that takes too long is ended with what it began, also if it takes no hint."""
-        for hook in ("sh -c 'sleep 60 & echo $! > began; wait'",
-                     "sh -c 'trap \"\" TERM; sleep 60 & echo $! > began; sleep 60'"):
+        # Longer than the test waits for its end.
+        for hook in ("sh -c 'sleep 300 & echo $! > began; wait'",
+                     "sh -c 'trap \"\" TERM; sleep 300 & echo $! > began; sleep 300'"):
             book, begin = self.book(hook), time.monotonic()
             book.PATIENCE = 1
             is_done, said = book.copy()

@@ -520,6 +520,42 @@ class Pages(Case):
         kept = 'value="n ew"' in sam.page, 'value="hotp" checked' in sam.page
         self.assertEqual(kept, (True, True), "the form keeps what was typed")
 
+    def test_a_search(self) -> None:
+        """Names are in the order of their numbers. A name that nobody has leads to its enrolment, for who may do it."""
+        Path("users").write_text(rows_of(*STAFF, "user10", "user2", "User1", "user", "z"))
+        Path("staff").write_text("sam %s all\nkim %s look\n" % (HASH, HASH))
+        site = Site()
+        sam, kim = site.log_in(), site.log_in("kim")
+        names = re.findall(r'<li><a href="/users/[^"]*">([^<]*)', sam.ask("/?q=user").page)
+        self.assertEqual(names, ["user", "User1", "user2", "user10"])
+        shown = 'id="enrol"><a href="/enrol?name=new%20one"'
+        self.assertIn(shown, sam.ask("/?q=new+one").page)
+        self.assertIn('value="new one"', sam.ask("/enrol?name=new%20one").page)
+        for browser, path in (sam, "/?q=user"), (sam, "/"), (kim, "/?q=new+one"):
+            self.assertNotIn('id="enrol">', browser.ask(path).page, path)
+
+    def test_wrong_addresses(self) -> None:
+        """What has no page gets one of ours, with the way back, and tells nothing to a stranger."""
+        site = Site()
+        sam, stranger = site.log_in(), Browser(site.application)
+        none = "No page has this address."
+        for path, status, said in (("/nothing", 404, none), (place("ann", "nothing"), 404, none),
+                                   ("/logout", 405, "No form of ours goes to this address.")):
+            sam.ask(path)
+            self.assertEqual((sam.status, sam.alert(), "Log out sam" in sam.page), (status, said, True), path)
+            self.assertEqual(sam.head["Cache-Control"], "no-store")
+        stranger.ask("/nothing")
+        self.assertEqual((stranger.status, stranger.alert(), "Log out" in stranger.page), (404, none, False))
+        self.assertEqual(stranger.ask(place("ann", "nothing")).status, 303, "the login")
+
+    def test_a_list_of_a_spreadsheet(self) -> None:
+        """A list may have semicolons, as spreadsheets write it in many countries."""
+        site = Site()
+        text = "secret,user,type\n%s,bob2,hotp\n" % ("31" * 20)
+        for data, delimiter in (text, ","), (text.replace(",", ";"), ";"), ("# a, b\n\n" + text.replace(",", ";"), ";"):
+            good, faults = site.desk.check_import(data.encode(), "hex", None)
+            self.assertEqual(([token.user for token in good], faults), (["bob2"], []), delimiter)
+
     def test_a_password_of_a_user(self) -> None:
         """A user with a password is resynchronized too: the line has the password of the row."""
         Path("users").write_text(rows_of(*STAFF, "ann") + "HOTP bob a-word-of-bob %040x\n" % 9)
@@ -545,7 +581,7 @@ class Pages(Case):
 
     def test_uploads(self) -> None:
         """A file of an import stays in memory, however long it is."""
-        site: Any = SimpleNamespace(name="trial", templates=[])
+        site: Any = SimpleNamespace(name="trial", templates=[], show_refusal=None)
         application, data = web.make_application(site, []), b"x" * 1_900_000
         with mock.patch.multiple("tempfile", SpooledTemporaryFile=None, TemporaryFile=None, NamedTemporaryFile=None):
             with application.test_request_context(method="POST", data={"file": (io.BytesIO(data), "list.csv")}):

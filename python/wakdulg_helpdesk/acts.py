@@ -187,7 +187,7 @@ class Desk:
 
     def check_import(self, data: bytes, secret_form: str, kind: str | None) -> tuple[list[Token], list[str]]:
         """Returns the tokens of a CSV file, and each fault of it. `oathd check` reads the rows that they would have."""
-        words = ImportWords(secret_form, kind)
+        words = ImportWords(secret_form, kind, delimiter_of(data))
         found, _ = lists.read_csv(data, "file", words, words)
         faults: list[str] = []
         good: list[Token] = []
@@ -231,10 +231,16 @@ class Desk:
 
 class ImportWords:
     """How `lists.read_csv` reads a file: a header with the names of fields."""
-    delimiter, columns, column, digits, period, hash = ",", None, (), 6, 30, "SHA1"
+    columns, column, digits, period, hash = None, (), 6, 30, "SHA1"
 
-    def __init__(self, secret_form: str, kind: str | None) -> None:
-        self.secrets, self.kind = secret_form, kind
+    def __init__(self, secret_form: str, kind: str | None, delimiter: str = ",") -> None:
+        self.secrets, self.kind, self.delimiter = secret_form, kind, delimiter
+
+
+def delimiter_of(data: bytes) -> str:
+    """Returns what parts the names of a header: a comma, or the semicolon that spreadsheets write in many countries."""
+    header = next((line for line in data.splitlines() if line.strip() and not line.startswith(b"#")), b"")
+    return ";" if header.count(b";") > header.count(b",") else ","
 
 
 def line_of(fault: str) -> int:

@@ -6,6 +6,7 @@ import functools
 import hashlib
 import hmac
 import os
+import re
 import shlex
 import signal
 import subprocess
@@ -93,6 +94,11 @@ def user_of(row: Row, names: bytes) -> User:
     return User(row.user, whole_type(row.type).decode(), password, mark_of(row), token, begin)
 
 
+def order_of(text: str) -> list[tuple[int, str]]:
+    """Returns what names are sorted by: user2 comes before user10."""
+    return [(len(part) if part.isdecimal() else 0, part) for part in re.split(r"([0-9]+)", text.casefold())]
+
+
 class Book:
     """The users file. It is read again when it changes, and changed by `change` alone.
 
@@ -130,7 +136,7 @@ class Book:
                     return
                 with open(self.path, "rb") as file:
                     rows = read_rows(file.read())
-                users = sorted((user_of(row, self.names) for row in rows), key=lambda user: user.text.casefold())
+                users = sorted((user_of(row, self.names) for row in rows), key=lambda user: order_of(user.text))
                 self.users = {user.name: user for user in users}
                 self.folded = [(user.text.casefold(), user) for user in users]
                 self.stamp, self.fault = stamp, ""

@@ -7,7 +7,7 @@ from itertools import islice, takewhile
 from typing import Any, Callable, Iterator
 from urllib.parse import urlencode
 
-from flask import Flask, Response, jsonify, redirect, render_template, request
+from flask import Flask, Response, abort, jsonify, redirect, render_template, request
 from flask.typing import ResponseReturnValue as Reply
 
 import wakdulg
@@ -135,7 +135,8 @@ class Site(web.Pages):
     def show_search(self) -> Reply:
         session = self.own_session()
         text, users, count = self.found()
-        return self.page("search.html", "Search", session, text=text, users=users, count=count, fault=self.book.fault)
+        return self.page("search.html", "Search", session, text=text, users=users, count=count, fault=self.book.fault,
+                         may_enrol="enrol" in self.rights(session))
 
     def search(self) -> Reply:
         begin = time.thread_time()
@@ -286,14 +287,14 @@ class Site(web.Pages):
     def show_act(self, name: str, act: str) -> Reply:
         session, user = self.own_session(), self.user_of(name)
         if act not in ACTS:
-            return "", 404
+            abort(404)
         self.entitle(session, act)
         return self.confirmation(session, user, act)
 
     def do_act(self, name: str, act: str) -> Reply:
         session, user = self.posted(), self.user_of(name)
         if act not in ACTS:
-            return "", 404
+            abort(404)
         self.entitle(session, act)
         if not is_same(request.form.get("seen", ""), self.sessions.mark(user.mark)):
             return self.confirmation(session, user, act, "The row was changed meanwhile. Nothing was done.", 409)
@@ -308,7 +309,7 @@ class Site(web.Pages):
         session = self.own_session()
         self.entitle(session, "enrol")
         return self.page("enrol.html", "Enrol a user", session, kinds=KINDS, fault=fault,
-                         kind=request.form.get("kind", "totp"), name=request.form.get("name", "")), status
+                         kind=request.form.get("kind", "totp"), name=request.values.get("name", "")), status
 
     def enrol(self) -> Reply:
         session = self.posted()

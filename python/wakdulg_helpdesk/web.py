@@ -16,6 +16,7 @@ import flask
 from flask import Flask, Response, redirect, render_template, request
 from flask.typing import ResponseReturnValue as Reply
 from jinja2 import FileSystemLoader
+from werkzeug.exceptions import HTTPException
 from werkzeug.wrappers import Response as Answer
 
 import wakdulg
@@ -41,6 +42,8 @@ OVER = "Your session is over. Log in, and repeat."
 UNNOTED = "The record could not be written. Tell whoever runs this site."
 NOT_BEGUN, NOT_IN = "Nothing was done. " + UNNOTED, "You are not logged in. " + UNNOTED
 NOT_KEPT = "Nothing was done. The new secret could not be kept on the disk: %s. Tell whoever runs this site."
+REFUSALS = {404: "No page has this address.", 405: "No form of ours goes to this address.",
+            413: "The form or the file is too long.", 500: "A fault came. Tell whoever runs this site: the log has it."}
 # A path of the own site, with a query or without one. A browser takes what begins with // for another host.
 OWN_PATH = re.compile(r"/(?!/)[A-Za-z0-9_.~%/-]*(?:\?[A-Za-z0-9_.~%=&+/-]*)?")
 HEADERS = {
@@ -303,6 +306,12 @@ class Pages:
                                token=self.sessions.form_token(self.cookie()), fault=fault, next_code=next_code,
                                wait=max(0, next_code - int(time.time())), **told)
 
+    def show_refusal(self, refusal: HTTPException) -> Reply:
+        """Shows a page of ours for a request that has none, as for a wrong address. It has the navigation."""
+        fault = REFUSALS.get(refusal.code or 0, "The request can't be read.")
+        page = self.page("message.html", "Not possible", self.session(is_used=False), fault=fault)
+        return page, refusal.code or 400
+
     def open_page(self, template: str, title: str, status: int = 200, **told: Any) -> Answer:
         """Returns a page for whoever comes. Its form wants a cookie, so the browser gets one."""
         name = self.cookie() or self.sessions.new_name()
@@ -400,6 +409,7 @@ def make_application(site: Pages, routes: Sequence[Route]) -> Flask:
     for path, view, method in routes:
         application.add_url_rule(path, method + path, view, methods=[method])
     application.register_error_handler(Stop, answer_of)
+    application.register_error_handler(HTTPException, site.show_refusal)
     application.after_request(with_headers)
     return application
 

@@ -10,6 +10,7 @@ function element(name, text) {
 // The search answers while somebody types. A late answer to an earlier text is dropped.
 function searchWhileTyping(field) {
     const count = document.getElementById("count"), results = document.getElementById("results");
+    const enrol = document.getElementById("enrol");
     let latest = 0, timer;
 
     function show(found) {
@@ -21,6 +22,9 @@ function searchWhileTyping(field) {
             item.append(link, " ", element("span", kind));
             return item;
         }));
+        if (!enrol) return;
+        enrol.hidden = found.count > 0 || !field.value.trim();
+        enrol.firstElementChild.href = "/enrol?name=" + encodeURIComponent(field.value.trim());
     }
 
     async function ask() {
