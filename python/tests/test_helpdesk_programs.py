@@ -99,14 +99,13 @@ class Programs(InFolder):
             Path(name).chmod(0o600)
         words = ["--key-file", "7:front.key", "--cluster", "cluster", "--users", "users", "--staff", "staff",
                  "--record", "record", "--issuer", "Site", "none/socket", "https://site.example"]
-        programs = ("wakdulg-helpdesk", "--operator", "operator"), ("wakdulg-self-service", "--allow", "resync")
-        for program, *more in programs:
-            for name in "users", "staff", "record", "front.key":
-                Path(name).chmod(0o604)
-                status, _, told = self.run_it(self.lib / program, *more, *words)
-                Path(name).chmod(0o600)
-                self.assertEqual((status, "others may read" in told, "chmod" in told), (2, True, True), told)
-                self.assertIn(name, told.rpartition("chmod")[2])
+        desk, own = ("wakdulg-helpdesk", "--operator", "operator"), ("wakdulg-self-service", "--allow", "resync")
+        for (program, *more), name in (desk, "users"), (desk, "operator"), (own, "record"), (own, "front.key"):
+            Path(name).chmod(0o604)
+            status, _, told = self.run_it(self.lib / program, *more, *words)
+            Path(name).chmod(0o600)
+            self.assertEqual((status, "others may read" in told, "chmod" in told), (2, True, True), told)
+            self.assertIn(name, told.rpartition("chmod")[2])
 
     @NEEDS_ARGON2
     def test_a_line_of_staff(self) -> None:
