@@ -19,7 +19,7 @@ use Rattle.named_port.specs.Runs.{IsAfter, at_start, below_events, handed_events
 use Rattle.named_port.specs.Setup.{named_setup}
 use Rattle.named_port.specs.Translator.{TranslatorRecord, new_translator}
 use Rattle.named_store.specs.declared.opening.RowCounts.{RowCounts}
-use Rattle.node_reports.specs.Desk.{DeskAnswers}
+use Rattle.node_reports.specs.Responder.{ResponderAnswers}
 use Rattle.oath_node.specs.Calls.{IsOpened}
 use Rattle.oath_node.specs.Hosted.{Hosted}
 use Rattle.oath_node.specs.declared.serve_fault.ServeFault.{ServeFault}
@@ -198,16 +198,16 @@ module _ {S : Type 0} {held : S → Held} {acts : ActsOf S} {old new : Hosted S}
       (ap (λ (all : List SocketAddrV4). setup_behind all front) same
       ∙ setup_is number members given front (subst (λ (n : ℕ). IsFrontOf n given front) who is)) served))
 
--- a desk over something of whose answers nothing is told
-desk_unasked : (answers : ℕ → Bool → Bool → Type 0) (left : ℕ) (waits ends : Bool) → DeskAnswers answers left waits ends
-    → DeskAnswers unasked left waits ends
+-- a responder over something of whose answers nothing is told
+desk_unasked : (answers : ℕ → Bool → Bool → Type 0) (left : ℕ) (waits ends : Bool) → ResponderAnswers answers left waits ends
+    → ResponderAnswers unasked left waits ends
 desk_unasked answers left waits ends h = record { told = h.told; told_is = h.told_is; own = h.own; answered = tt; own_ends = h.own_ends }
 
--- nothing is told of the answers below a desk
+-- nothing is told of the answers below a responder
 served_unasked : {S : Type 0} (held : S → Held) (acts : ActsOf S) (old new : Hosted S) (setup : Setup) (start : TranslatorRecord) (packer : PackerRecord)
     (turns : ℕ) (answers : ℕ → Bool → Bool → Type 0) (result : Result Served Fault)
-    → IsServedNamed held acts old new setup start packer turns (DeskAnswers answers) result
-    → IsServedNamed held acts old new setup start packer turns (DeskAnswers unasked) result
+    → IsServedNamed held acts old new setup start packer turns (ResponderAnswers answers) result
+    → IsServedNamed held acts old new setup start packer turns (ResponderAnswers unasked) result
 served_unasked held acts old new setup start packer turns answers result h =
     let serves = h.serves in
     record {
@@ -217,7 +217,7 @@ served_unasked held acts old new setup start packer turns answers result h =
       end = h.end;
       serves = record {
         calls = serves.calls;
-        serves = stretches_so held acts old new (Some []) (Some (handed_events start serves.calls)) None None turns (DeskAnswers answers) (DeskAnswers unasked) h.end
+        serves = stretches_so held acts old new (Some []) (Some (handed_events start serves.calls)) None None turns (ResponderAnswers answers) (ResponderAnswers unasked) h.end
             (desk_unasked answers) serves.serves;
         told = serves.told;
         is_made = serves.is_made;
@@ -301,10 +301,10 @@ module _ {S : Type 0} (held : S → Held) (serving : Serving) (book : List Crede
 
     -- the node's run ends with a fault before the first turn, or in a turn
     pub ends_by : (fault : Fault)
-        → IsEarlyFault fault ⊎ IsServedNamed held (operator_acts held) first last (setup_for serving.place.me serving.members.items serving.lines) (translator_of naming) (packer_of naming) serving.turns (DeskAnswers unasked) (Err fault)
-        → IsEarlyFault fault ⊎ IsServedOver held serving book names store (DeskAnswers unasked) (Err fault)
+        → IsEarlyFault fault ⊎ IsServedNamed held (operator_acts held) first last (setup_for serving.place.me serving.members.items serving.lines) (translator_of naming) (packer_of naming) serving.turns (ResponderAnswers unasked) (Err fault)
+        → IsEarlyFault fault ⊎ IsServedOver held serving book names store (ResponderAnswers unasked) (Err fault)
     ends_by fault (inl early) = inl early
-    ends_by fault (inr run) = inr (served_by (DeskAnswers unasked) (Err fault) run)
+    ends_by fault (inr run) = inr (served_by (ResponderAnswers unasked) (Err fault) run)
 
 -- ---- results
 
@@ -338,10 +338,10 @@ early_front Socket is = tt
 pub early_is : (fault one : Fault) → IsEarlyFault one → fault ≡ one → IsEarlyFault fault
 early_is fault one is same = subst IsEarlyFault (sym same) is
 
--- who met want of memory at the desk met it before the first turn
-pub ends_desk : {A B C : Type 0} (fault : Fault) → (A → C) → ((fault ≡ Memory) × B) ⊎ A → IsEarlyFault fault ⊎ C
-ends_desk fault so (inl memory) = inl (early_is fault Memory tt memory.0)
-ends_desk fault so (inr run) = inr (so run)
+-- who met want of memory at the responder met it before the first turn
+pub ends_with_responder : {A B C : Type 0} (fault : Fault) → (A → C) → ((fault ≡ Memory) × B) ⊎ A → IsEarlyFault fault ⊎ C
+ends_with_responder fault so (inl memory) = inl (early_is fault Memory tt memory.0)
+ends_with_responder fault so (inr run) = inr (so run)
 
 -- ---- the command
 
@@ -378,26 +378,26 @@ module _ {S : Type 0} (g : Ghosts S) (finds : sql.Held S → Type 0) (cluster : 
       (names : List (List ℕ)) (are : names ≡ names_of cluster.salt book) where
     -- the node is served
     pub has_served : (answers : ℕ → Bool → Bool → Type 0) (result : Result Served Fault)
-        → IsServedOver (seated_held (sql_held g)) serving book names found (DeskAnswers answers) result
+        → IsServedOver (seated_held (sql_held g)) serving book names found (ResponderAnswers answers) result
         → HasServedNamed g finds cluster moment serving answers result text
     has_served answers result over = record {
       import = record { book = book; floors = floors; imported = imported };
       found = found;
       counts = counts;
       opened = opened;
-      over = subst (λ (all : List (List ℕ)). IsServedOver (seated_held (sql_held g)) serving book all found (DeskAnswers answers) result) are over;
+      over = subst (λ (all : List (List ℕ)). IsServedOver (seated_held (sql_held g)) serving book all found (ResponderAnswers answers) result) are over;
     }
 
     -- a fault ends it
-    pub ends_served : (fault : Fault) → IsEarlyFault fault ⊎ IsServedOver (seated_held (sql_held g)) serving book names found (DeskAnswers unasked) (Err fault)
+    pub ends_served : (fault : Fault) → IsEarlyFault fault ⊎ IsServedOver (seated_held (sql_held g)) serving book names found (ResponderAnswers unasked) (Err fault)
         → EndsServingNamed g finds cluster moment serving (Command fault) text
     ends_served fault (inl early) = inl (early_failed serving.settings moment 16777216 book floors fault text imported early)
     ends_served fault (inr over) = inr (has_served unasked (Err fault) over)
 
 -- who was not served to the end wasn't served, for want of memory, or was served till the fault
-pub ends_at_desk : {S B : Type 0} (held : S → Held) (acts : ActsOf S) (old new : Hosted S) (setup : Setup) (start : TranslatorRecord) (packer : PackerRecord) (turns : ℕ)
-    (answers : ℕ → Bool → Bool → Type 0) (fault : Fault) → ((failed fault ≡ failed Memory) × B) ⊎ IsServedNamed held acts old new setup start packer turns (DeskAnswers answers) (Err fault)
-    → ((fault ≡ Memory) × B) ⊎ IsServedNamed held acts old new setup start packer turns (DeskAnswers unasked) (Err fault)
-ends_at_desk held acts old new setup start packer turns answers fault (inl memory) = inl (err_same fault Memory memory.0, memory.1)
-ends_at_desk held acts old new setup start packer turns answers fault (inr run) =
+pub ends_responding : {S B : Type 0} (held : S → Held) (acts : ActsOf S) (old new : Hosted S) (setup : Setup) (start : TranslatorRecord) (packer : PackerRecord) (turns : ℕ)
+    (answers : ℕ → Bool → Bool → Type 0) (fault : Fault) → ((failed fault ≡ failed Memory) × B) ⊎ IsServedNamed held acts old new setup start packer turns (ResponderAnswers answers) (Err fault)
+    → ((fault ≡ Memory) × B) ⊎ IsServedNamed held acts old new setup start packer turns (ResponderAnswers unasked) (Err fault)
+ends_responding held acts old new setup start packer turns answers fault (inl memory) = inl (err_same fault Memory memory.0, memory.1)
+ends_responding held acts old new setup start packer turns answers fault (inr run) =
     inr (served_unasked held acts old new setup start packer turns answers (Err fault) run)

@@ -19,7 +19,7 @@ use Rattle.oath_node.specs.Hosted.{Hosted}
 use Rattle.oath_node.specs.declared.serve_fault.ServeFault.{ServeFault}
 use Rattle.oath_node.specs.declared.turns.Served.{Served}
 use Rattle.named_store.specs.declared.opening.RowCounts.{RowCounts}
-use Rattle.node_reports.specs.Desk.{DeskAnswers}
+use Rattle.node_reports.specs.Responder.{ResponderAnswers}
 use Rattle.seated_store.specs.Seated.{SeatedRecord, seated_held}
 use Rattle.token_file.specs.Credential.{Credential}
 use Rattle.token_names.specs.Names.{names_of}
@@ -167,7 +167,7 @@ module _ {S : Type 0} (g : Ghosts S) (finds : sql.Held S → Type 0) (cluster : 
     pub opened :
         HasOpenedNamed g finds cluster serving.settings moment serving.place.me import.book import.floors found counts
     pub over : IsServedOver (seated_held (sql_held g)) serving import.book (names_of cluster.salt import.book) found
-        (DeskAnswers answers) result
+        (ResponderAnswers answers) result
 
 -- A command that serves a node by names ends with the fault: before the first turn, or in a turn, with all that was
 -- served until then.

@@ -3,7 +3,7 @@
 ghost use Rattle.std.specs.Prelude.{◌≡◌, ◌⊎◌, ◌<◌, ◌^◌, [], None, Some, false, true, if◌then◌else◌, length, map, Result, Ok, Err, IfErr, IfOk, IfSome, IsSome};
 ghost use Rattle.otp_core.specs.Range.{IsMoment};
 ghost use Rattle.cluster_file.specs.Rows.{book_print_of};
-ghost use Rattle.node_reports.specs.Desk.{DeskAnswers};
+ghost use Rattle.node_reports.specs.Responder.{ResponderAnswers};
 ghost use Rattle.oath_node.specs.declared.serve_fault.ServeFault.{ServeFault};
 ghost use Rattle.oath_node.specs.declared.turns.Served.{Served};
 ghost use Rattle.oathd_database.specs.Fault.{IsOpenFault, serve_end};
@@ -26,7 +26,7 @@ use kept_rows::write_left;
 use named_port::{NamedPort, Names};
 use named_store::RowCounts;
 use node_log::{Roster, Start};
-use node_reports::{Desk, NamedRows, Standing, Told, version_of};
+use node_reports::{NamedRows, NodeInfo, ReportSource, Responder, version_of};
 use node_serving::{
     Attend, Attended, Front, KeptSocket, ServeLog, Serving, Stop, front_of, log_of, open_node,
     serve_port, start_of, tag_key,
@@ -161,13 +161,20 @@ fn serve_front<S: FloorStore, N: TimeSource, W: Write, U: Attend<S>>(
     }
 }
 
-/// Serves a node by names over a socket, as [`serve_front`] does, with a desk at which operators ask. The desk knows
-/// the tokens of `book`, and tells them what stays of the node and what `told` tells. Returns `until` too. `socket`
-/// keeps which members went back, and in which boots they were heard.
+/// Serves a node by names over a socket, as [`serve_front`] does, with a responder for operators.
+///
+/// The responder knows the tokens of `book`. It tells what `info` says of the node, and the reports of `source`.
+/// Returns `until` too. `socket` keeps which members went back, and in which boots they were heard.
 ///
 /// # Errors
 /// Returns the errors of [`serve_front`].
-fn serve_desk<S: FloorStore, T: Told<S> + Drop, N: TimeSource, W: Write, U: Stop + Drop>(
+fn serve_responder<
+    S: FloorStore,
+    T: ReportSource<S> + Drop,
+    N: TimeSource,
+    W: Write,
+    U: Stop + Drop,
+>(
     alloc: Global,
     node: &mut Node<'_, S>,
     port: UdpPort<&N>,
@@ -175,9 +182,9 @@ fn serve_desk<S: FloorStore, T: Told<S> + Drop, N: TimeSource, W: Write, U: Stop
     outside: &N,
     front: Front,
     turns: u64,
-    standing: Standing,
+    info: NodeInfo,
     book: &Book,
-    told: T,
+    source: T,
     socket: &mut KeptSocket,
     until: U,
     log: Option<ServeLog>,
@@ -188,13 +195,13 @@ fn serve_desk<S: FloorStore, T: Told<S> + Drop, N: TimeSource, W: Write, U: Stop
     requires plain { (port.skips_answers ≡ true) × (port.takes_loopback_alone ≡ false) }
     ensures served { IfOk result (λ served. IsServedNamed S.held (operator_acts S.held) node.old node.new
         (setup_behind port.entry.members.items front) (translator_of naming.now) (packer_of naming.now) turns
-        (DeskAnswers (U.answers served.1)) (Ok served.0)) }
+        (ResponderAnswers (U.answers served.1)) (Ok served.0)) }
     ensures fault { IfErr result (λ fault. ((fault ≡ Fault.Memory) × (node.new ≡ node.old))
         ⊎ IsServedNamed S.held (operator_acts S.held) node.old node.new (setup_behind port.entry.members.items front)
-        (translator_of naming.now) (packer_of naming.now) turns (DeskAnswers unasked) (Err fault)) }
+        (translator_of naming.now) (packer_of naming.now) turns (ResponderAnswers unasked) (Err fault)) }
     ensures unlogged { log ≡ None → writer.new ≡ writer.old }
 {
-    let mut until = Attended::new(Desk::new(alloc, outside, standing, book, told, until));
+    let mut until = Attended::new(Responder::new(alloc, outside, info, book, source, until));
     match serve_front(
         alloc, node, port, naming, outside, front, turns, &mut until, log, writer,
     ) {
@@ -212,60 +219,38 @@ fn serve_desk<S: FloorStore, T: Told<S> + Drop, N: TimeSource, W: Write, U: Stop
 /// Returns the content of the log's line of a store's rows, or None if there is no log.
 ///
 /// The store was opened for the tokens of `book`, whose print is `print`.
-fn roster_of(
-    alloc: Global,
-    is_logged: bool,
-    counts: RowCounts,
-    book: &Book,
-    key: &ClusterKey,
-) -> Result<Option<Roster>, Fault>
-    ensures roster { IfOk result (λ roster.
-        roster ≡ (if is_logged then Some (roster_at counts book.now key.now) else None)) }
-    ensures fault { IfErr result (λ fault. fault ≡ Fault.Memory) }
+fn roster_of(is_logged: bool, counts: RowCounts, book: &Book, print: [u8; 16]) -> Option<Roster>
+    ensures { result ≡ (if is_logged then Some (roster_at counts book.now print) else None) }
 {
     if !is_logged {
-        return Ok(None);
+        return None;
     }
     // At most 10,000.
     let tokens = book.len() as u32;
-    let Ok(print) = book_print(alloc, key, book) else {
-        return Err(Fault::Memory);
-    };
-    Ok(Some(Roster {
+    Some(Roster {
         rows: counts.all,
         enrolled: counts.enrolled,
         retired: counts.all.saturating_sub(tokens),
         book: print,
-    }))
+    })
 }
 
-/// Returns what stays of a node that begins at `moment`, whose log has the content `start` in its first line.
-fn standing_of(
-    alloc: Global,
-    naming: &Naming,
-    place: Place,
-    moment: u64,
-    start: Start,
-    book: &Book,
-) -> Result<Standing, Fault>
-    ensures standing { IfOk result (λ standing. (standing.place ≡ place) × (standing.started ≡ moment)
-        × (standing.fingerprint ≡ start.fingerprint)
-        × (standing.book ≡ Some (book_print_of naming.now.key book.now))) }
-    ensures fault { IfErr result (λ fault. fault ≡ Fault.Memory) }
+/// Returns what stays of a node that begins at `moment`, whose log has the content `start` in its first line, and whose
+/// users file has the print `print`.
+fn info_of(place: Place, moment: u64, start: Start, print: [u8; 16]) -> NodeInfo
+    ensures node { (result.place ≡ place) × (result.started ≡ moment) }
+    ensures prints { (result.fingerprint ≡ start.fingerprint) × (result.book ≡ Some print) }
 {
-    let Ok(print) = book_print(alloc, &naming.key, book) else {
-        return Err(Fault::Memory);
-    };
     let version = version_of(VERSION.as_bytes());
     let fingerprint = start.fingerprint;
     let book = Some(print);
-    Ok(Standing {
+    NodeInfo {
         place,
         version,
         started: moment,
         fingerprint,
         book,
-    })
+    }
 }
 
 /// Returns the names of the tokens of a users file, with their index.
@@ -353,7 +338,7 @@ fn naming_of<S: FloorStore>(
 /// Returns the log of a node, or None if there is none, and what stays of the node, which begins at `moment`.
 ///
 /// Its store was opened for the tokens of `book`, and has `counts` rows.
-fn log_and_standing(
+fn log_and_info(
     alloc: Global,
     naming: &Naming,
     place: Place,
@@ -362,14 +347,20 @@ fn log_and_standing(
     counts: RowCounts,
     book: &Book,
     is_logged: bool,
-) -> Result<(Option<ServeLog>, Standing), Fault>
+) -> Result<(Option<ServeLog>, NodeInfo), Fault>
     ensures unlogged { IfOk result (λ made. is_logged ≡ false → made.0 ≡ None) }
+    ensures logged { IfOk result (λ made. IfSome made.0 (λ log.
+        log.roster ≡ Some (roster_at counts book.now (book_print_of naming.now.key book.now)))) }
+    ensures info { IfOk result (λ made.
+        (made.1.place ≡ place) × (made.1.book ≡ Some (book_print_of naming.now.key book.now))) }
     ensures fault { IfErr result (λ fault. fault ≡ Fault.Memory) }
 {
-    let roster = roster_of(alloc, is_logged, counts, book, &naming.key)?;
+    let Ok(print) = book_print(alloc, &naming.key, book) else {
+        return Err(Fault::Memory);
+    };
+    let roster = roster_of(is_logged, counts, book, print);
     let log = log_of(is_logged, start, roster, place);
-    let standing = standing_of(alloc, naming, place, moment, start, book)?;
-    Ok((log, standing))
+    Ok((log, info_of(place, moment, start, print)))
 }
 
 /// Serves a node by names, which was opened for the tokens of `book`, over a UDP socket at its address. The socket is
@@ -377,8 +368,14 @@ fn log_and_standing(
 ///
 /// # Errors
 /// - Returns `Socket` if the socket cannot be bound.
-/// - Returns the errors of [`front_of`] and [`serve_desk`].
-fn serve_opened<S: FloorStore, T: Told<S> + Drop, N: Net + TimeSource, W: Write, U: Stop + Drop>(
+/// - Returns the errors of [`front_of`] and [`serve_responder`].
+fn serve_opened<
+    S: FloorStore,
+    T: ReportSource<S> + Drop,
+    N: Net + TimeSource,
+    W: Write,
+    U: Stop + Drop,
+>(
     alloc: Global,
     node: &mut Node<'_, S>,
     outside: &N,
@@ -388,17 +385,17 @@ fn serve_opened<S: FloorStore, T: Told<S> + Drop, N: Net + TimeSource, W: Write,
     counts: RowCounts,
     book: &Book,
     serving: Serving<'_>,
-    told: T,
+    source: T,
     socket: &mut KeptSocket,
     until: U,
     writer: &mut W,
 ) -> Result<(Served, U), Fault>
     ensures served { IfOk result (λ served. IsServedNamed S.held (operator_acts S.held) node.old node.new
         (setup_for serving.entry.place.me serving.entry.members.items serving.entry.lines) (translator_of naming.now)
-        (packer_of naming.now) serving.entry.turns (DeskAnswers (U.answers served.1)) (Ok served.0)) }
+        (packer_of naming.now) serving.entry.turns (ResponderAnswers (U.answers served.1)) (Ok served.0)) }
     ensures fault { IfErr result (λ fault. IsEarlyFault fault ⊎ IsServedNamed S.held (operator_acts S.held) node.old
         node.new (setup_for serving.entry.place.me serving.entry.members.items serving.entry.lines)
-        (translator_of naming.now) (packer_of naming.now) serving.entry.turns (DeskAnswers unasked) (Err fault)) }
+        (translator_of naming.now) (packer_of naming.now) serving.entry.turns (ResponderAnswers unasked) (Err fault)) }
     ensures unlogged { serving.entry.is_logged ≡ false → writer.new ≡ writer.old }
 {
     let Serving {
@@ -412,11 +409,9 @@ fn serve_opened<S: FloorStore, T: Told<S> + Drop, N: Net + TimeSource, W: Write,
     let address = members[usize::from(place.me()) - 1];
     let port = UdpPort::new(socket.handle(outside, address)?, members, outside);
     let front = front_of(alloc, place.me(), lines, outside)?;
-    let (log, standing) = log_and_standing(
-        alloc, naming, place, moment, start, counts, book, is_logged,
-    )?;
-    serve_desk(
-        alloc, node, port, naming, outside, front, turns, standing, book, told, socket, until, log,
+    let (log, info) = log_and_info(alloc, naming, place, moment, start, counts, book, is_logged)?;
+    serve_responder(
+        alloc, node, port, naming, outside, front, turns, info, book, source, socket, until, log,
         writer,
     )
 }
@@ -429,7 +424,7 @@ fn serve_opened<S: FloorStore, T: Told<S> + Drop, N: Net + TimeSource, W: Write,
 /// - Returns the errors of [`serve_opened`].
 fn serve_over<
     S: FloorStore + Drop,
-    T: Told<S> + Drop,
+    T: ReportSource<S> + Drop,
     N: Net + TimeSource,
     W: Write,
     U: Stop + Drop,
@@ -441,16 +436,17 @@ fn serve_over<
     counts: RowCounts,
     store: S,
     serving: Serving<'_>,
-    told: T,
+    source: T,
     socket: &mut KeptSocket,
     until: U,
     writer: &mut W,
 ) -> Result<(Served, U), Fault>
     requires { length (S.held store).content.rows ≡ length named.now.users.book }
     ensures served { IfOk result (λ served. IsServedOver S.held serving.entry named.now.users.book
-        (map (λ entry. entry.name) named.now.entries.items) store (DeskAnswers (U.answers served.1)) (Ok served.0)) }
+        (map (λ entry. entry.name) named.now.entries.items) store (ResponderAnswers (U.answers served.1))
+        (Ok served.0)) }
     ensures fault { IfErr result (λ fault. IsEarlyFault fault ⊎ IsServedOver S.held serving.entry named.now.users.book
-        (map (λ entry. entry.name) named.now.entries.items) store (DeskAnswers unasked) (Err fault)) }
+        (map (λ entry. entry.name) named.now.entries.items) store (ResponderAnswers unasked) (Err fault)) }
     ensures unlogged { serving.entry.is_logged ≡ false → writer.new ≡ writer.old }
 {
     let book = &named.users.book;
@@ -458,7 +454,7 @@ fn serve_over<
     let bare = ClusterKey::bare();
     let mut node = open_node(alloc, book, serving.settings, serving.place, &bare, store)?;
     serve_opened(
-        alloc, &mut node, outside, moment, &naming, start, counts, book, serving, told, socket,
+        alloc, &mut node, outside, moment, &naming, start, counts, book, serving, source, socket,
         until, writer,
     )
 }
@@ -517,7 +513,7 @@ pub fn serve_named_store<
         alloc, text, settings, moment, node, cluster, database,
     )?;
     tell_left(alloc, serving.is_logged, text, kept.as_deref(), writer);
-    let told = NamedRows {
+    let source = NamedRows {
         node,
         book: &named.users.book,
         roster: rows,
@@ -525,7 +521,7 @@ pub fn serve_named_store<
         key: own_key.own().as_slice(),
     };
     let served = serve_over(
-        alloc, outside, moment, &named, counts, store, serving, told, socket, until, writer,
+        alloc, outside, moment, &named, counts, store, serving, source, socket, until, writer,
     )?;
     Ok(served)
 }

@@ -1,3 +1,3 @@
 pub mod PassLemmas
-pub mod StandingLemmas
+pub mod NodeStatusLemmas
 pub mod TextLemmas

@@ -1,4 +1,4 @@
-pub mod Desk
-pub mod Standing
+pub mod NodeStatus
+pub mod Reports
+pub mod Responder
 pub mod Text
-pub mod Told

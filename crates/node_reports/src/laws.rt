@@ -4,10 +4,10 @@ ghost use Rattle.operator_text.specs.declared.reply.Reply.TheVariants.{NoRequest
 ghost use Rattle.operator_text.specs.declared.request.Report.TheVariants.{Gates};
 ghost use Rattle.sealed_wire.specs.declared.right.Right.TheVariants.{Operator, Reader};
 ghost use Rattle.token_file.specs.Credential.{Credential};
-ghost use Rattle.node_reports.specs.Desk.{ChangesNothing, wish_in};
-ghost use Rattle.node_reports.specs.Standing.{rows_within};
+ghost use Rattle.node_reports.specs.Responder.{ChangesNothing, decision_in};
+ghost use Rattle.node_reports.specs.NodeStatus.{rows_within};
 ghost use Rattle.node_reports.specs.Text.{IsText, lines_of};
-ghost use Rattle.node_reports.specs.declared.desk.Wish.TheVariants.{Drain, OpenGate, Page, Refused};
+ghost use Rattle.node_reports.specs.declared.responder.Decision.TheVariants.{Drain, OpenGate, Page, Refused};
 
 use operator_text::pages_are_the_report;
 
@@ -42,19 +42,19 @@ pub fn rows_are_worked()
 
 /// Readers: whatever the text of a reader's request, it neither opens a gate nor ends the node.
 pub fn readers_change_nothing()
-    ensures { (book : List Credential) → (text : List ℕ) → ChangesNothing (wish_in book Reader text) }
+    ensures { (book : List Credential) → (text : List ℕ) → ChangesNothing (decision_in book Reader text) }
 {}
 
 /// Counterexamples: what an operator asks for does change something, and the same texts of a reader are refused.
 pub fn readers_can_be_broken()
     ensures unlocks { (token : Credential) → token.name ≡ codes "ann"
-        → wish_in (token ∷ []) Operator (codes "UNLOCK ann") ≡ OpenGate 0 }
-    ensures unlocks_nobody { wish_in [] Operator (codes "UNLOCK ann") ≡ Refused NoUser }
-    ensures drains { wish_in [] Operator (codes "DRAIN") ≡ Drain }
-    ensures reads { wish_in [] Reader (codes "GATES 7") ≡ Page Gates 7 }
-    ensures asks_nothing { wish_in [] Reader (codes "GATES") ≡ Refused NoRequest }
-    ensures no_unlock { (book : List Credential) → wish_in book Reader (codes "UNLOCK ann") ≡ Refused NoRight }
-    ensures no_drain { (book : List Credential) → wish_in book Reader (codes "DRAIN") ≡ Refused NoRight }
+        → decision_in (token ∷ []) Operator (codes "UNLOCK ann") ≡ OpenGate 0 }
+    ensures unlocks_nobody { decision_in [] Operator (codes "UNLOCK ann") ≡ Refused NoUser }
+    ensures drains { decision_in [] Operator (codes "DRAIN") ≡ Drain }
+    ensures reads { decision_in [] Reader (codes "GATES 7") ≡ Page Gates 7 }
+    ensures asks_nothing { decision_in [] Reader (codes "GATES") ≡ Refused NoRequest }
+    ensures no_unlock { (book : List Credential) → decision_in book Reader (codes "UNLOCK ann") ≡ Refused NoRight }
+    ensures no_drain { (book : List Credential) → decision_in book Reader (codes "DRAIN") ≡ Refused NoRight }
     ensures gate { (token : ℕ) → ChangesNothing (OpenGate token) → ⊥ }
     ensures end { ChangesNothing Drain → ⊥ }
 {}

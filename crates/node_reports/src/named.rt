@@ -4,11 +4,11 @@ ghost use Rattle.std.specs.Prelude.{◌≡◌, ◌≤◌, length, replicate, IfO
 ghost use Rattle.floors_file.specs.NamedWriting.{named_floors_text};
 ghost use Rattle.named_floors.specs.Told.{telling_value, told_named};
 ghost use Rattle.oathd_roster.specs.Roster.{roster_text};
-ghost use Rattle.node_reports.specs.Told.{telling_of};
+ghost use Rattle.node_reports.specs.Reports.{telling_of};
 ghost use Rattle.oathd_database.specs.Gates.{gates_text};
 
 use crate::passes::PassList;
-use crate::told::Told;
+use crate::source::ReportSource;
 use floor_sql::SqlStore;
 use floor_store::{FloorStore, Pass, StoreFault};
 use floors_file::write_named_floors;
@@ -125,8 +125,8 @@ impl NamedRows<'_> {
     }
 }
 
-impl<A: Alter + Drop> Told<SeatedStore<SqlStore<A>>> for NamedRows<'_> {
-    ghost use Rattle.node_reports.specs.Told.{IsNamedText, rows_below};
+impl<A: Alter + Drop> ReportSource<SeatedStore<SqlStore<A>>> for NamedRows<'_> {
+    ghost use Rattle.node_reports.specs.Reports.{IsNamedText, rows_below};
 
     ghost says = { IsNamedText A.Store };
 

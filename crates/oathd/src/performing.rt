@@ -4,10 +4,8 @@ ghost use Rattle.std.specs.Prelude.{◌<◌, IfOk};
 ghost use Rattle.sqlite_wal.specs.Files.{image_at};
 ghost use Rattle.oathd_database.specs.File.{FindsFiles};
 ghost use Rattle.oathd_words.specs.StoreWords.{IsActionInRange};
-ghost use Rattle.oathd_words.specs.declared.store_words.Action.TheVariants.{Audit, Export, Floors, Gates, Init, Level, Migrate, Remake, Unlock};
 ghost use Rattle.oathd.specs.Done.{IsDone};
 
-use oathd_acts::{audit, export, floors, gates, init, level, migrate, remake, unlock};
 use oathd_serving::serve_logged;
 use oathd_site::{Fault, Site};
 use oathd_words::Action;
@@ -28,17 +26,6 @@ pub(crate) fn perform<'a, S: Start, O: Write>(
         action.entry site.now.cluster.now (O.contents held.old) (O.contents held.new)) }
 {
     match action {
-        Action::Init {
-            node,
-            import,
-            moment,
-        } => init(site, start, node, import, moment, held),
-        Action::Remake {
-            node,
-            import,
-            moment,
-            former,
-        } => remake(site, start, node, import, moment, former, held),
         Action::Serve {
             cluster,
             turns,
@@ -46,13 +33,6 @@ pub(crate) fn perform<'a, S: Start, O: Write>(
             clients,
             reloads,
         } => serve_logged(site, start, cluster, turns, log, clients, reloads),
-        Action::Export => export(site, start, held),
-        Action::Audit { node } => audit(site, start, node, held),
-        Action::Migrate { node } => migrate(site, start, node),
-        Action::Floors { node, count } => floors(site, start, node, count, held),
-        Action::Level { node, floors } => level(site, start, node, floors),
-        Action::Gates { node } => gates(site, start, node, held),
-        Action::Unlock { node, user } => unlock(site, start, node, user),
-        Action::Named { node, act, .. } => oathd_acts::act(site, start, node, act, held),
+        stopped => oathd_acts::perform(site, start, stopped, held),
     }
 }

@@ -3,10 +3,8 @@
 use crate::performing::perform as perform_action;
 use crate::told::{EndFault, ReplacedFault, ToldFault};
 use oathd_causes::{
-    Cause, Names, database_cause, names_cause, no_user_cause, path_advice, roster_cause,
-    seats_cause, task_cause,
+    Cause, Names, database_cause, names_cause, path_advice, roster_cause, seats_cause, task_cause,
 };
-use oathd_database::UnlockFault;
 use oathd_site::{Fault, Site};
 use oathd_tasks::{PROGRAM, TaskFault, perform};
 use oathd_words::Task;
@@ -27,12 +25,9 @@ fn cause_of<'a>(
 ) -> Option<Cause<'a>> {
     match fault {
         Fault::Task(fault) => task_cause(alloc, rt, names, text, fault),
-        Fault::Database(fault) | Fault::Unlock(UnlockFault::Command(fault)) => {
-            database_cause(alloc, rt, names, text, fault)
-        }
+        Fault::Database(fault) => database_cause(alloc, rt, names, text, fault),
         Fault::Floors(fault) => Some(Cause::Floors(path_advice(fault))),
-        Fault::Unlock(UnlockFault::NoUser(_)) => Some(no_user_cause(names)),
-        Fault::Roster(fault) => Some(roster_cause(rt, names, fault)),
+        Fault::Roster(fault) => Some(roster_cause(alloc, rt, names, text, fault)),
         Fault::Seats(fault) => seats_cause(names, fault),
         Fault::Names(fault) => names_cause(names, fault),
     }

@@ -1,3 +1,4 @@
+mod LooksLemmas
 mod NamedLemmas
 mod WordsLemmas
 mod PlainLemmas

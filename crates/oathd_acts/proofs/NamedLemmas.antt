@@ -13,8 +13,7 @@ use Rattle.seated_store.specs.Seated.{SeatedRecord}
 use Rattle.vote_core.specs.NodeSet.{PlaceRecord}
 use Rattle.oathd_words.specs.declared.store_words.NamedAct.{NamedAct}
 use Rattle.oathd_words.specs.declared.store_words.NamedAct.TheVariants as acts
-use Rattle.oathd_seats.specs.Commands.{HasAuditedNamed, HasExportedNamed, HasToldGatesNamed, HasToldRoster}
-use Rattle.oathd_seats.specs.Unlock.{UnlocksNamed}
+use Rattle.oathd_seats.specs.Commands.{HasToldRoster}
 use Rattle.oathd_roster.specs.declared.cluster.NamedCluster.{NamedCluster}
 use Rattle.oathd_acts.specs.Named.{ActsFor, AreNamedFloorsTold, IsActDone, IsFormerOf, IsRemadeByNames}
 use Rattle.oathd_site.specs.Names.{IsKeyOf, IsMemberByNames}
@@ -26,7 +25,6 @@ use Rattle.oathd_floors.specs.Told.{HasTold}
 use Rattle.oathd_floors.specs.declared.remaking.Former.{Former}
 use Rattle.oathd_words.specs.declared.former_words.FormerWords.{FormerWords}
 use Rattle.oathd_site.specs.declared.fault.Fault.{Fault}
-use Rattle.oathd_site.specs.declared.fault.Fault.TheVariants.{Unlock, Roster}
 
 module _ {S : Type 0} (g : Ghosts S) (finds : sql.Held S → Type 0) where
   -- an act with a name is the act
@@ -44,26 +42,13 @@ module _ {S : Type 0} (g : Ghosts S) (finds : sql.Held S → Type 0) where
 
   module _ (text : List ℕ) (settings : Limits) (place : PlaceRecord) (named : NamedCluster) (old new : Option (List ℕ)) (node : ℕ) (same : node ≡ place.me)
       (users : List ℕ) where
-    -- what is printed of the store of the member, and what is unlocked in it
-    pub exported : HasExportedNamed g finds named settings 16777216 node old new users → ActsFor g finds text acts.Export settings place named old new
-    exported h = (users, subst (λ (n : ℕ). HasExportedNamed g finds named settings 16777216 n old new users) same h)
-
-    pub audited : HasAuditedNamed g finds named settings 16777216 node old new users → ActsFor g finds text acts.Audit settings place named old new
-    audited h = (users, subst (λ (n : ℕ). HasAuditedNamed g finds named settings 16777216 n old new users) same h)
-
-    pub told_gates : HasToldGatesNamed g finds named settings 16777216 node old new users → ActsFor g finds text acts.Gates settings place named old new
-    told_gates h = (users, subst (λ (n : ℕ). HasToldGatesNamed g finds named settings 16777216 n old new users) same h)
-
+    -- what is printed of the store of the member
     pub told_roster : HasToldRoster g finds named settings 16777216 node old new users → ActsFor g finds text acts.Roster settings place named old new
     told_roster h = (users, subst (λ (n : ℕ). HasToldRoster g finds named settings 16777216 n old new users) same h)
 
     pub dropped : (conn : sql.Held S) → HasDropped g finds named settings 16777216 node old new conn users
         → ActsFor g finds text acts.DropRetired settings place named old new
     dropped conn h = (users, (conn, subst (λ (n : ℕ). HasDropped g finds named settings 16777216 n old new conn users) same h))
-
-    pub unlocked : (user : Bor (List ℕ)) (store : SqlHeld S) → UnlocksNamed g finds named settings 16777216 node user.now store users
-        → ActsFor g finds text (acts.Unlock user) settings place named old new
-    unlocked user store h = (users, (store, subst (λ (n : ℕ). UnlocksNamed g finds named settings 16777216 n user.now store users) same h))
 
     pub migrated : (members : Option ℕ) (conn : sql.Held S) → members ≡ Some place.n → HasNamed g finds named default_limits 16777216 node conn users
         → ActsFor g finds text (acts.Migrate members) settings place named old new

@@ -1,2 +1,4 @@
+pub mod Acting
+pub mod Looks
 pub mod Named
 pub mod Plain

@@ -18,10 +18,8 @@ use Rattle.oathd_floors.specs.Remade.{HasRemade}
 use Rattle.oathd_floors.specs.Told.{HasTold}
 use Rattle.oathd_floors.specs.declared.remaking.Former.{Former}
 use Rattle.oathd_roster.specs.Begun.{HasBegun}
-use Rattle.oathd_seats.specs.Commands.{HasAuditedNamed, HasExportedNamed, HasToldGatesNamed, HasToldRoster}
-use Rattle.oathd_seats.specs.Unlock.{UnlocksNamed}
+use Rattle.oathd_seats.specs.Commands.{HasToldRoster}
 use Rattle.oathd_roster.specs.declared.cluster.NamedCluster.{NamedCluster}
-use Rattle.oathd_site.specs.declared.fault.Fault.TheVariants.{Unlock, Roster}
 use Rattle.oathd_site.specs.Names.{IsKeyOf, IsMemberByNames}
 
 -- The floors files of former stores are those of the words, and were read in a later second than they say.
@@ -77,14 +75,6 @@ module _ {S : Type 0} (g : Ghosts S) (finds : sql.Held S → Type 0) where
   abbrev pub Acts : List ℕ → NamedAct → Limits → PlaceRecord → NamedCluster → Option (List ℕ) → Option (List ℕ)
       → List ℕ → Type 0
   Acts text acts.Begin settings place named old new users = Begins settings place named old new users
-  Acts text acts.Export settings place named old new users =
-      HasExportedNamed g finds named settings 16777216 place.me old new users
-  Acts text acts.Audit settings place named old new users =
-      HasAuditedNamed g finds named settings 16777216 place.me old new users
-  Acts text acts.Gates settings place named old new users =
-      HasToldGatesNamed g finds named settings 16777216 place.me old new users
-  Acts text (acts.Unlock user) settings place named old new users =
-      (store : SqlHeld S) × UnlocksNamed g finds named settings 16777216 place.me user.now store users
   Acts text acts.Roster settings place named old new users =
       HasToldRoster g finds named settings 16777216 place.me old new users
   Acts text acts.DropRetired settings place named old new users =

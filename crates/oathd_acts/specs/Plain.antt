@@ -12,19 +12,12 @@ use Rattle.otp_core.specs.Range.{IsMoment}
 use Rattle.vote_core.specs.NodeSet.{PlaceRecord}
 use Rattle.floor_sql.specs.Held.{SqlHeld}
 use Rattle.cluster_file.specs.ClusterFile.{ClusterRecord, cluster_of}
-use Rattle.oathd_words.specs.declared.former_words.CountWords.TheVariants as counts
 use Rattle.oathd_words.specs.declared.former_words.FormerWords.{FormerWords}
-use Rattle.oathd_words.specs.declared.store_words.Action.{Action}
-use Rattle.oathd_words.specs.declared.store_words.Action.TheVariants.{Init, Remake, Serve, Export, Audit, Migrate, Floors, Level, Gates, Unlock}
-use Rattle.oathd_words.specs.declared.store_words.Action.TheVariants.{Named as ByNames}
-use Rattle.oathd_words.specs.declared.store_words.ImportWords.TheVariants.{Given, Named}
-use Rattle.oathd_database.specs.Commands.{HasAudited, HasExported, HasMade, HasMigrated}
+use Rattle.oathd_database.specs.Commands.{HasMade}
 use Rattle.oathd_database.specs.Floors.{HasToldFloors}
-use Rattle.oathd_database.specs.Gates.{HasToldGates}
 use Rattle.oathd_database.specs.Level.{HasLevelled}
 use Rattle.oathd_database.specs.Lost.{HasRemade}
 use Rattle.oathd_database.specs.Made.{HasMadeMember, store_line}
-use Rattle.oathd_database.specs.Unlock.{Unlocks}
 use Rattle.oathd_database.specs.declared.lost.LostNode.{LostNode}
 use Rattle.oathd_roster.specs.declared.cluster.NamedCluster.{NamedCluster}
 use Rattle.oathd_tasks.specs.Check.{IsKeyIn}
@@ -140,24 +133,3 @@ module _ {S : Type 0} (g : Ghosts S) (finds : sql.Held S → Type 0) where
     pub cluster : ClusterRecord
     pub of_text : cluster_of text ≡ Ok cluster
     pub told : AreFloorsToldBy cluster node cluster.names old new
-
-  -- The action over a stopped store without names is done, with the text of the cluster file that its words name. The records of the output before and
-  -- after it are `old` and `new`. A store that is created without a cluster file prints nothing.
-  abbrev pub IsPlainDone : Action → List ℕ → Option (List ℕ) → Option (List ℕ) → Type 0
-  IsPlainDone (Init node (Given settings) moment) text old new = IsCreated node settings moment × (new ≡ old)
-  IsPlainDone (Init node (Named path) moment) text old new = IsMemberCreated node moment text old new
-  IsPlainDone (Remake node (Given settings) moment former) text old new =
-      (store : SqlHeld S) × IsReplaced node settings moment former store × (new ≡ old)
-  IsPlainDone (Remake node (Named path) moment former) text old new = IsMemberReplaced node moment former text old new
-  IsPlainDone (Serve cluster turns log clients reloads) text old new = ⊥
-  IsPlainDone Export text old new = (users : List ℕ) × HasExported g finds default_limits 0 16777216 old new users
-  IsPlainDone (Audit node) text old new = (users : List ℕ) × HasAudited g finds default_limits 0 16777216 node old new users
-  IsPlainDone (Migrate node) text old new =
-      (users : List ℕ) × (conn : sql.Held S) × HasMigrated g finds default_limits 0 16777216 node conn users
-  IsPlainDone (Floors node (counts.Given count)) text old new = AreFloorsTold node count old new
-  IsPlainDone (Floors node (counts.Named path)) text old new = AreMembersFloorsTold node text old new
-  IsPlainDone (Level node floors) text old new = IsLevelled node (length floors.items)
-  IsPlainDone (Gates node) text old new = (users : List ℕ) × HasToldGates g finds default_limits 16777216 node old new users
-  IsPlainDone (Unlock node user) text old new =
-      (users : List ℕ) × (store : SqlHeld S) × Unlocks g finds default_limits 16777216 node user.now store users
-  IsPlainDone (ByNames node path act) text old new = ⊥

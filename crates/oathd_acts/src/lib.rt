@@ -1,8 +1,9 @@
 //! The commands of `oathd` over the store of a stopped node.
 #![tactic(auto)]
 
+mod acting;
+mod looks;
 mod named;
 mod plain;
 
-pub use named::act;
-pub use plain::{audit, export, floors, gates, init, level, migrate, remake, unlock};
+pub use acting::perform;

@@ -3,31 +3,25 @@
 ghost use Rattle.oathd_database.specs.declared.fault.Fault.TheVariants as database;
 ghost use Rattle.oathd_words.specs.declared.store_words.NamedAct.TheVariants as acts;
 ghost use Rattle.std.specs.Prelude.{◌≡◌, ◌<◌, None, IfOk, IfSome, ℕ, List, Option, Some};
-ghost use Rattle.sqlite_wal.specs.Files.{image_at};
 ghost use Rattle.floor_sql.specs.Usable.{IsNode};
 ghost use Rattle.otp_core.specs.Range.{IsMoment};
-ghost use Rattle.oathd_database.specs.File.{FindsFiles};
-ghost use Rattle.oathd_words.specs.declared.store_words.Action.TheVariants.{Audit, Export, Gates, Level, Migrate, Unlock};
+ghost use Rattle.oathd_words.specs.declared.store_words.Action.TheVariants.{Level, Migrate};
 ghost use Rattle.std.specs.Option.{unwrap_or};
 ghost use Rattle.oathd_acts.specs.Named.{ActsFor, AreNamedFloorsTold, IsActDone, IsRemadeByNames};
 
 use floors_file::MAX_NAMED_FLOORS_LEN;
-use oathd_database::DatabaseFile;
+use oathd_database::Database;
 use oathd_floors::{
     Former, drop_retired_rows, level_named_store, name_store, remake_named_store, tell_named_floors,
 };
 use oathd_roster::{NamedCluster, begin_store};
-use oathd_seats::{
-    audit_named_store, export_named_store, gates_named_store, roster_named_store,
-    unlock_named_store,
-};
+use oathd_seats::roster_named_store;
 use oathd_site::{
     Fault, NamesFault, Site, checked_users_text, floors_texts, present_moment, with_named_paths,
 };
 use oathd_words::{FormerWords, NamedAct};
 use otp_core::Settings;
-use sqlite::{FileFrom, FileStore, Start};
-use sqlite_trees::store::Store;
+use sqlite::Alter;
 use std::io::{self, Write};
 use vote_core::Place;
 use vote_wire::ClusterKey;
@@ -58,196 +52,129 @@ fn check_members<'a>(members_were: Option<u8>, members: u8) -> Result<(), Fault<
 }
 
 /// Creates the store of a member for a cluster that never served, and prints what was made.
-fn begin<'a, S: Start, O: Write>(
+fn begin<'a, S: Alter + Drop, D: Database<S>, O: Write>(
     site: &Site<'_, 'a>,
-    start: S,
+    database: D,
     settings: Settings,
     place: Place,
     named: &NamedCluster,
     held: &mut O,
 ) -> Result<(), Fault<'a>>
     requires { IsNode place.me }
-    ensures { IfOk result (λ _. ActsFor ⟦<FileStore<FileFrom<S>> as Store>⟧ (FindsFiles (image_at S.Start))
-        site.now.cluster.now acts.Begin settings place named.now (O.contents held.old) (O.contents held.new)) }
+    ensures { IfOk result (λ _. ActsFor S.Store D.finds site.now.cluster.now acts.Begin settings place named.now
+        (O.contents held.old) (O.contents held.new)) }
 {
     let moment = present_moment(site.rt)?;
     let users = site.users(settings, moment)?;
     let alloc = site.alloc;
-    let database = DatabaseFile::found_or_made(site.rt, site.database, start);
     let _store = begin_store(alloc, users, settings, moment, place, named, database, held)?;
     Ok(())
 }
 
-/// Prints a users file with the content of the store.
-fn export_named<'a, S: Start, O: Write>(
-    site: &Site<'_, 'a>,
-    start: S,
-    settings: Settings,
-    place: Place,
-    named: &NamedCluster,
-    held: &mut O,
-) -> Result<(), Fault<'a>>
-    ensures { IfOk result (λ _. ActsFor ⟦<FileStore<FileFrom<S>> as Store>⟧ (FindsFiles (image_at S.Start))
-        site.now.cluster.now acts.Export settings place named.now (O.contents held.old) (O.contents held.new)) }
-{
-    let (alloc, users, found) = (site.alloc, site.users_alone()?, site.found(start));
-    export_named_store(alloc, users, settings, place.me(), named, found, held)?;
-    Ok(())
-}
-
-/// Prints the passes of the store.
-fn audit_named<'a, S: Start, O: Write>(
-    site: &Site<'_, 'a>,
-    start: S,
-    settings: Settings,
-    place: Place,
-    named: &NamedCluster,
-    held: &mut O,
-) -> Result<(), Fault<'a>>
-    ensures { IfOk result (λ _. ActsFor ⟦<FileStore<FileFrom<S>> as Store>⟧ (FindsFiles (image_at S.Start))
-        site.now.cluster.now acts.Audit settings place named.now (O.contents held.old) (O.contents held.new)) }
-{
-    let (alloc, users, found) = (site.alloc, site.users_alone()?, site.found(start));
-    audit_named_store(alloc, users, settings, place.me(), named, found, held)?;
-    Ok(())
-}
-
-/// Prints the gates that have failures.
-fn gates_named<'a, S: Start, O: Write>(
-    site: &Site<'_, 'a>,
-    start: S,
-    settings: Settings,
-    place: Place,
-    named: &NamedCluster,
-    held: &mut O,
-) -> Result<(), Fault<'a>>
-    ensures { IfOk result (λ _. ActsFor ⟦<FileStore<FileFrom<S>> as Store>⟧ (FindsFiles (image_at S.Start))
-        site.now.cluster.now acts.Gates settings place named.now (O.contents held.old) (O.contents held.new)) }
-{
-    let (alloc, users, found) = (site.alloc, site.users_alone()?, site.found(start));
-    gates_named_store(alloc, users, settings, place.me(), named, found, held)?;
-    Ok(())
-}
-
 /// Prints the rows of the store.
-fn roster_named<'a, S: Start, O: Write>(
+fn roster_named<'a, S: Alter + Drop, D: Database<S>, O: Write>(
     site: &Site<'_, 'a>,
-    start: S,
+    database: D,
     settings: Settings,
     place: Place,
     named: &NamedCluster,
     held: &mut O,
 ) -> Result<(), Fault<'a>>
-    ensures { IfOk result (λ _. ActsFor ⟦<FileStore<FileFrom<S>> as Store>⟧ (FindsFiles (image_at S.Start))
-        site.now.cluster.now acts.Roster settings place named.now (O.contents held.old) (O.contents held.new)) }
+    ensures { IfOk result (λ _. ActsFor S.Store D.finds site.now.cluster.now acts.Roster settings place named.now
+        (O.contents held.old) (O.contents held.new)) }
 {
-    let (alloc, users, found) = (site.alloc, site.users_alone()?, site.found(start));
-    roster_named_store(alloc, users, settings, place.me(), named, found, held)?;
+    let (alloc, users) = (site.alloc, site.users_alone()?);
+    roster_named_store(alloc, users, settings, place.me(), named, database, held)?;
     Ok(())
 }
 
 /// Drops the rows of retired tokens whose floors other rows keep, and prints how many.
-fn drop_named<'a, S: Start, O: Write>(
+fn drop_named<'a, S: Alter + Drop, D: Database<S>, O: Write>(
     site: &Site<'_, 'a>,
-    start: S,
+    database: D,
     settings: Settings,
     place: Place,
     named: &NamedCluster,
     held: &mut O,
 ) -> Result<(), Fault<'a>>
-    ensures { IfOk result (λ _. ActsFor ⟦<FileStore<FileFrom<S>> as Store>⟧ (FindsFiles (image_at S.Start))
-        site.now.cluster.now acts.DropRetired settings place named.now (O.contents held.old)
-        (O.contents held.new)) }
+    ensures { IfOk result (λ _. ActsFor S.Store D.finds site.now.cluster.now acts.DropRetired settings place named.now
+        (O.contents held.old) (O.contents held.new)) }
 {
-    let (alloc, users, found) = (site.alloc, site.users_alone()?, site.found(start));
-    let _conn = drop_retired_rows(alloc, users, settings, place.me(), named, found, held)?;
-    Ok(())
-}
-
-/// Clears the failures of a user.
-fn unlock_named<'a, S: Start>(
-    site: &Site<'_, 'a>,
-    start: S,
-    settings: Settings,
-    place: Place,
-    named: &NamedCluster,
-    user: &'a str,
-) -> Result<(), Fault<'a>>
-    ensures { (old : Option (List ℕ)) (new : Option (List ℕ)) → IfOk result (λ _. ActsFor
-        ⟦<FileStore<FileFrom<S>> as Store>⟧ (FindsFiles (image_at S.Start)) site.now.cluster.now
-        (acts.Unlock user.entry) settings place
-        named.now old new) }
-{
-    let (alloc, users, found) = (site.alloc, site.users_alone()?, site.found(start));
-    let _store = unlock_named_store(alloc, users, settings, place.me(), user, named, found)?;
+    let (alloc, users) = (site.alloc, site.users_alone()?);
+    let _conn = drop_retired_rows(alloc, users, settings, place.me(), named, database, held)?;
     Ok(())
 }
 
 /// Gives the tokens of the store names.
-fn migrate_named<'a, S: Start>(
+fn migrate_named<'a, S: Alter + Drop, D: Database<S>>(
     site: &Site<'_, 'a>,
-    start: S,
+    database: D,
     settings: Settings,
     place: Place,
     named: &NamedCluster,
     members_were: Option<u8>,
 ) -> Result<(), Fault<'a>>
-    ensures { (old : Option (List ℕ)) (new : Option (List ℕ)) → IfOk result (λ _. ActsFor
-        ⟦<FileStore<FileFrom<S>> as Store>⟧ (FindsFiles (image_at S.Start)) site.now.cluster.now
-        (acts.Migrate members_were) settings place named.now old new) }
+    ensures { (old : Option (List ℕ)) (new : Option (List ℕ)) → IfOk result (λ _. ActsFor S.Store D.finds
+        site.now.cluster.now (acts.Migrate members_were) settings place named.now old new) }
 {
     check_members(members_were, place.n())?;
-    let (users, found) = (site.users_alone()?, site.found(start));
-    let _conn = name_store(site.alloc, users, place.me(), named, found)?;
+    let users = site.users_alone()?;
+    let _conn = name_store(site.alloc, users, place.me(), named, database)?;
     Ok(())
 }
 
 /// Raises the floors of the store (floor: the first free factor) to the greatest in floors files.
-fn level_named<'a, S: Start>(
+fn level_named<'a, S: Alter + Drop, D: Database<S>>(
     site: &Site<'_, 'a>,
-    start: S,
+    database: D,
     settings: Settings,
     place: Place,
     named: &NamedCluster,
     floors: Vec<&'a str>,
 ) -> Result<(), Fault<'a>>
-    ensures { (old : Option (List ℕ)) (new : Option (List ℕ)) → IfOk result (λ _. ActsFor
-        ⟦<FileStore<FileFrom<S>> as Store>⟧ (FindsFiles (image_at S.Start)) site.now.cluster.now
-        (acts.Level floors.entry) settings place
-        named.now old new) }
+    ensures { (old : Option (List ℕ)) (new : Option (List ℕ)) → IfOk result (λ _. ActsFor S.Store D.finds
+        site.now.cluster.now (acts.Level floors.entry) settings place named.now old new) }
 {
     let key = site.own_key()?;
     let now = present_moment(site.rt)?;
     let texts = floors_texts(site.alloc, site.rt, &floors, MAX_NAMED_FLOORS_LEN)?;
-    let (alloc, found) = (site.alloc, site.found(start));
-    match level_named_store(alloc, place.me(), now, named, key.as_slice(), &texts, found) {
+    let alloc = site.alloc;
+    match level_named_store(
+        alloc,
+        place.me(),
+        now,
+        named,
+        key.as_slice(),
+        &texts,
+        database,
+    ) {
         Ok(_store) => Ok(()),
         Err(fault) => Err(with_named_paths(&floors, fault)),
     }
 }
 
 /// Prints the floors file of the store by names.
-pub(crate) fn floors_by_names<'a, S: Start, O: Write>(
+pub(crate) fn floors_by_names<'a, S: Alter + Drop, D: Database<S>, O: Write>(
     site: &Site<'_, 'a>,
-    start: S,
+    database: D,
     node: u8,
     named: &NamedCluster,
     key: &ClusterKey,
     held: &mut O,
 ) -> Result<(), Fault<'a>>
-    ensures { IfOk result (λ _. AreNamedFloorsTold ⟦<FileStore<FileFrom<S>> as Store>⟧
-        (FindsFiles (image_at S.Start)) named.now key.now node (O.contents held.old) (O.contents held.new)) }
+    ensures { IfOk result (λ _. AreNamedFloorsTold S.Store D.finds named.now key.now node
+        (O.contents held.old) (O.contents held.new)) }
 {
     let moment = present_moment(site.rt)?;
-    let (alloc, found) = (site.alloc, site.found(start));
-    tell_named_floors(alloc, node, moment, named, key.as_slice(), found, held)?;
+    let alloc = site.alloc;
+    tell_named_floors(alloc, node, moment, named, key.as_slice(), database, held)?;
     Ok(())
 }
 
 /// Creates a replacement store by names from the floors files of former stores, and prints what was made.
-pub(crate) fn remake_named<'a, S: Start, O: Write>(
+pub(crate) fn remake_named<'a, S: Alter + Drop, D: Database<S>, O: Write>(
     site: &Site<'_, 'a>,
-    start: S,
+    database: D,
     settings: Settings,
     place: Place,
     moment: Option<u64>,
@@ -257,8 +184,8 @@ pub(crate) fn remake_named<'a, S: Start, O: Write>(
     held: &mut O,
 ) -> Result<(), Fault<'a>>
     requires { IfSome moment IsMoment }
-    ensures { IfOk result (λ _. IsRemadeByNames ⟦<FileStore<FileFrom<S>> as Store>⟧ (FindsFiles (image_at S.Start))
-        settings place moment named.now key.now former.entry (O.contents held.old) (O.contents held.new)) }
+    ensures { IfOk result (λ _. IsRemadeByNames S.Store D.finds settings place moment named.now key.now former.entry
+        (O.contents held.old) (O.contents held.new)) }
 {
     if former.since == 0 {
         return Err(Fault::Names(NamesFault::NoSince));
@@ -279,7 +206,6 @@ pub(crate) fn remake_named<'a, S: Start, O: Write>(
         now,
         texts: &texts,
     };
-    let database = DatabaseFile::found_or_made(rt, site.database, start);
     match remake_named_store(
         alloc,
         users.as_slice(),
@@ -298,29 +224,25 @@ pub(crate) fn remake_named<'a, S: Start, O: Write>(
 }
 
 /// Does an act on the store of the member `node`.
-pub fn act<'a, S: Start, O: Write>(
+pub(crate) fn act<'a, S: Alter + Drop, D: Database<S>, O: Write>(
     site: &Site<'_, 'a>,
-    start: S,
+    database: D,
     node: u8,
     act: NamedAct<'a>,
     held: &mut O,
 ) -> Result<(), Fault<'a>>
     requires { IsNode node }
-    ensures { IfOk result (λ _. IsActDone ⟦<FileStore<FileFrom<S>> as Store>⟧ (FindsFiles (image_at S.Start)) node
-        act.entry site.now.cluster.now (O.contents held.old) (O.contents held.new)) }
+    ensures { IfOk result (λ _. IsActDone S.Store D.finds node act.entry site.now.cluster.now
+        (O.contents held.old) (O.contents held.new)) }
 {
     let (settings, place, named) = site.member(node)?;
     match act {
-        NamedAct::Begin => begin(site, start, settings, place, &named, held),
-        NamedAct::Export => export_named(site, start, settings, place, &named, held),
-        NamedAct::Audit => audit_named(site, start, settings, place, &named, held),
-        NamedAct::Gates => gates_named(site, start, settings, place, &named, held),
-        NamedAct::Unlock { user } => unlock_named(site, start, settings, place, &named, user),
-        NamedAct::Roster => roster_named(site, start, settings, place, &named, held),
-        NamedAct::DropRetired => drop_named(site, start, settings, place, &named, held),
+        NamedAct::Begin => begin(site, database, settings, place, &named, held),
+        NamedAct::Roster => roster_named(site, database, settings, place, &named, held),
+        NamedAct::DropRetired => drop_named(site, database, settings, place, &named, held),
         NamedAct::Migrate { members_were } => {
-            migrate_named(site, start, settings, place, &named, members_were)
+            migrate_named(site, database, settings, place, &named, members_were)
         }
-        NamedAct::Level { floors } => level_named(site, start, settings, place, &named, floors),
+        NamedAct::Level { floors } => level_named(site, database, settings, place, &named, floors),
     }
 }

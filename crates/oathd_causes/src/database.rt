@@ -4,9 +4,10 @@
 //! is written and removed, to see whether the disk has room.
 
 use crate::file::{FileCause, file_cause_of};
-use crate::named::{Named, StoreCause, named_cause, unfound_cause};
+use crate::named::{Bound, Named, StoreCause, bond_cause, named_cause, unfound_cause};
 use crate::remedy::{FileRole, file_remedy};
 use crate::space::space_cause;
+use cluster_file::Cluster;
 use floor_store::StoreFault;
 use sqlite::{Connection, Error, ErrorCode, Row};
 use std::fs::{self, OpenOptions};
@@ -92,17 +93,29 @@ fn named_in(rt: &HostRuntime, path: &str) -> Option<Named> {
     })
 }
 
-/// The row that has the number of members of the cluster of a store.
-const SELECT_BOND: &str = "SELECT members FROM bond WHERE id = 1";
+/// The row that has the names and the life of the cluster of a store, and the number of its members.
+const SELECT_BOND: &str = "SELECT names, life, members FROM bond WHERE id = 1";
 
-/// Returns the cluster that the store in the database at `path` is bound to, or None if its tables don't say it.
-pub(crate) fn cluster_in(rt: &HostRuntime, path: &str) -> Option<StoreCause> {
+/// Returns what differs between the cluster that the store in the database at `path` is bound to and this one, or
+/// None if its tables don't say it.
+pub(crate) fn bond_cause_in(
+    rt: &HostRuntime,
+    path: &str,
+    cluster: &Cluster<'_>,
+) -> Option<StoreCause> {
     if !is_database(rt, path) {
         return None;
     }
     let mut conn = Connection::open(rt, path).ok()?;
     let row = conn.query_row(SELECT_BOND, &[]).ok()?;
-    Some(StoreCause::OtherCluster(number_at(&row, 0)?))
+    let names: Vec<u8> = row.get(0).ok()?;
+    let life: Vec<u8> = row.get(1).ok()?;
+    let bound = Bound {
+        has_names: names.as_slice() == cluster.names?,
+        has_life: life.as_slice() == cluster.life,
+        members: number_at(&row, 2)?,
+    };
+    bond_cause(bound, cluster.members.len() as u64)
 }
 
 /// Returns what is found at `path` after the fault of a store, or None.

@@ -7,7 +7,7 @@ ghost use Rattle.oathd_causes.specs.Causes.{address_cause, file_cause_of, key_ca
 ghost use Rattle.floors_file.specs.declared.gathered.FileFault.{FileFault};
 ghost use Rattle.floors_file.specs.declared.gathered.FilesFault.{FilesFault};
 ghost use Rattle.oathd_causes.specs.Floors.{file_advice, floors_advice, path_advice};
-ghost use Rattle.oathd_causes.specs.Named.{named_cause};
+ghost use Rattle.oathd_causes.specs.Named.{bond_cause, named_cause};
 ghost use Rattle.oathd_causes.specs.Remedies.{file_remedy, role_among, unfound_cause};
 ghost use Rattle.oathd_causes.specs.declared.address.AddressCause.{AddressCause};
 ghost use Rattle.oathd_causes.specs.declared.file.FileCause.{FileCause};
@@ -55,6 +55,17 @@ pub fn store_causes_are_worked()
         ≡ Some (StoreCause.OtherNode 1 2) }
     ensures rows { named_cause (record { version = 2; node = 1; tokens = 51 }) false (Some 1) (Some 50)
         ≡ Some (StoreCause.OtherRows 51 50) }
+{}
+
+/// Worked cases: what differs between the cluster of a store and that of a cluster file.
+pub fn bond_causes_are_worked()
+    ensures none { bond_cause (record { has_names = true; has_life = true; members = 3 }) 3 ≡ None }
+    ensures names { bond_cause (record { has_names = false; has_life = false; members = 3 }) 5
+        ≡ Some StoreCause.OtherNames }
+    ensures life { bond_cause (record { has_names = true; has_life = false; members = 3 }) 5
+        ≡ Some StoreCause.OtherLife }
+    ensures members { bond_cause (record { has_names = true; has_life = true; members = 3 }) 5
+        ≡ Some (StoreCause.OtherMembers 3 5) }
 {}
 
 /// Worked cases. What to do about a file for each reason, what a file is for, and what to say if no cause was found.

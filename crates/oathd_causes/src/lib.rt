@@ -31,10 +31,10 @@ pub use file::{FileCause, file_cause, file_cause_of};
 pub use floors::{FloorsAdvice, file_advice, floors_advice, path_advice};
 pub use key::{KeyCause, key_cause};
 pub use laws::{
-    advice_is_worked, causes_are_worked, names_are_worked, remedies_are_worked,
-    store_causes_are_worked,
+    advice_is_worked, bond_causes_are_worked, causes_are_worked, names_are_worked,
+    remedies_are_worked, store_causes_are_worked,
 };
-pub use named::{Named, StoreCause, named_cause};
+pub use named::{Bound, Named, StoreCause, bond_cause, named_cause};
 pub use names::Names;
 pub use remedy::{FileRemedy, FileRole, file_remedy};
 pub use roster::{

@@ -1,5 +1,5 @@
 ghost use Rattle.std.specs.Prelude.{◌≡◌};
-ghost use Rattle.oathd_causes.specs.Named.{named_cause, node_cause, tokens_cause, version_cause};
+ghost use Rattle.oathd_causes.specs.Named.{bond_cause, named_cause, node_cause, tokens_cause, version_cause};
 ghost use Rattle.oathd_causes.specs.Remedies.{unfound_cause};
 
 use crate::file::FileCause;
@@ -38,9 +38,13 @@ pub enum StoreCause {
     Unnamed,
     #[error("a store of version 3, by names: give --cluster with its cluster file, which has a line names")]
     ByNames,
-    /// The number of members of the cluster that the store is bound to.
-    #[error("the store of another cluster: its life, its names or its {0} members differ: mend the file or the path")]
-    OtherCluster(u64),
+    #[error("the store of another cluster: its names differ: mend the file or the path")]
+    OtherNames,
+    #[error("the store of another cluster: its life differs: mend the file or the path")]
+    OtherLife,
+    /// The number of members of the cluster that the store is bound to, and that of the cluster file.
+    #[error("the store of another cluster: it has {0} members, the file {1}: mend the file or the path")]
+    OtherMembers(u64, u64),
     /// The store has no room for the new tokens.
     #[error("at most 65536 rows, retired ones too: take the new tokens out of the users file, and the others go on")]
     Full,
@@ -123,4 +127,32 @@ pub fn named_cause(
     version_cause(is_named, named.version)
         .or(node_cause(named.node, node))
         .or(tokens_cause(named.tokens, rows))
+}
+
+/// The cluster that a store is bound to, beside that of a cluster file.
+#[derive(Clone, Copy, Debug, PartialEq, Eq)]
+pub struct Bound {
+    /// Whether it has the same names.
+    pub has_names: bool,
+    /// Whether it has the same life.
+    pub has_life: bool,
+    /// The number of its members.
+    pub members: u64,
+}
+
+/// Returns what differs between the cluster that a store is bound to and that of a cluster file with `members` members,
+/// or None. Of several differences it is the first: names, life, members.
+pub fn bond_cause(bound: Bound, members: u64) -> Option<StoreCause>
+    ensures { result ≡ bond_cause bound members }
+{
+    if !bound.has_names {
+        return Some(StoreCause::OtherNames);
+    }
+    if !bound.has_life {
+        return Some(StoreCause::OtherLife);
+    }
+    if bound.members != members {
+        return Some(StoreCause::OtherMembers(bound.members, members));
+    }
+    None
 }

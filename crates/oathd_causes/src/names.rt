@@ -1,7 +1,7 @@
 //! The files, the node and the address that the words of a command over a database name.
 
 use cluster_file::{KeySource, read_cluster};
-use oathd_site::Standing;
+use oathd_site::FilesBefore;
 use oathd_words::{Action, ClientWords, ClusterWords, NamedAct, Task};
 use std::alloc::Global;
 use std::net::SocketAddrV4;
@@ -27,7 +27,7 @@ pub struct Names<'a> {
     /// Whether the command gives the tokens of a store names.
     pub(crate) is_naming: bool,
     /// The files of the database before the command, where they are known.
-    standing: Option<Standing>,
+    files: Option<FilesBefore>,
 }
 
 /// Returns the path of the key file, or None if the key is given itself.
@@ -56,7 +56,7 @@ impl<'a> Names<'a> {
             address: None,
             is_new: false,
             is_naming: false,
-            standing: None,
+            files: None,
         }
     }
 
@@ -73,16 +73,16 @@ impl<'a> Names<'a> {
                 clients,
                 ..
             } => self.with_cluster(cluster).with_clients(*clients),
-            Action::Audit { node }
-            | Action::Migrate { node }
-            | Action::Floors { node, .. }
-            | Action::Level { node, .. }
-            | Action::Gates { node }
-            | Action::Unlock { node, .. } => Names {
-                node: Some(*node),
+            Action::Migrate { node } | Action::Floors { node, .. } | Action::Level { node, .. } => {
+                Names {
+                    node: Some(*node),
+                    ..self
+                }
+            }
+            Action::Look { owner, .. } => Names {
+                node: owner.node(),
                 ..self
             },
-            Action::Export => self,
             Action::Named { node, act, .. } => Names {
                 node: Some(*node),
                 is_new: matches!(act, NamedAct::Begin),
@@ -133,7 +133,7 @@ impl<'a> Names<'a> {
                 action,
             } => {
                 let names = Names {
-                    standing: Some(Standing::at(rt, *database)),
+                    files: Some(FilesBefore::at(rt, *database)),
                     ..Names::new(*database, *users, task.cluster_path())
                 };
                 Some(names.with_action(action))
@@ -144,8 +144,8 @@ impl<'a> Names<'a> {
 
     /// Returns whether a file of the database stands at its path no more, since the command began.
     pub(crate) fn is_replaced(&self, rt: &HostRuntime) -> bool {
-        match self.standing {
-            Some(standing) => standing.is_over(rt, self.database),
+        match self.files {
+            Some(files) => files.is_replaced(rt, self.database),
             None => false,
         }
     }

@@ -4,12 +4,14 @@ ghost use Rattle.std.specs.Prelude.{◌≡◌};
 ghost use Rattle.oathd_causes.specs.Roster.{names_advice as spec_names_advice};
 
 use crate::cause::Cause;
-use crate::database::cluster_in;
+use crate::database::bond_cause_in;
 use crate::named::StoreCause;
 use crate::names::Names;
+use cluster_file::read_cluster;
 use oathd_roster::RosterFault;
 use oathd_seats::SeatsFault;
 use oathd_site::NamesFault;
+use std::alloc::Global;
 use thiserror::Error;
 
 /// What to do about a token that has the name of another one.
@@ -61,10 +63,31 @@ pub fn names_cause(names: Names<'_>, fault: NamesFault) -> Option<Cause<'_>> {
     Some(Cause::Names(path, names_advice(fault)))
 }
 
+/// Returns what differs between the cluster of a store and that of the cluster file with this text, or None.
+fn cluster_cause(
+    alloc: Global,
+    rt: &HostRuntime,
+    database: &str,
+    text: &[u8],
+) -> Option<StoreCause> {
+    match read_cluster(alloc, text) {
+        Ok(cluster) => bond_cause_in(rt, database, &cluster),
+        Err(_) => None,
+    }
+}
+
 /// Returns the cause of a fault of a command over a store by names, and of no other one.
-pub fn roster_cause<'a>(rt: &HostRuntime, names: Names<'a>, fault: RosterFault) -> Cause<'a> {
+///
+/// `text` is the content of the cluster file that the words name.
+pub fn roster_cause<'a>(
+    alloc: Global,
+    rt: &HostRuntime,
+    names: Names<'a>,
+    text: &[u8],
+    fault: RosterFault,
+) -> Cause<'a> {
     let cause = match fault {
-        RosterFault::AnotherCluster => cluster_in(rt, names.database),
+        RosterFault::AnotherCluster => cluster_cause(alloc, rt, names.database, text),
         RosterFault::Full => Some(StoreCause::Full),
         RosterFault::SameName(_) => return Cause::Advice(names.users, SAME_NAME_ADVICE),
         RosterFault::Command(_) => return Cause::Path(names.users),

@@ -1,20 +1,13 @@
 -- How a command ends.
-use Rattle.std.proofs.Common.{ℕ, List, Option, Some, None, IfSome, length}
-use Rattle.std.specs.Prelude.{Result, Ok, Err, IfErr, IfOk, OnOk}
-use Rattle.std.specs.Io.KnownBytes.{Appends}
+use Rattle.std.proofs.Common.{ℕ, List, Option, IfSome}
+use Rattle.std.specs.Prelude.{Result, Ok, Err, IfErr}
 use Rattle.std.proofs.lemmas.Option.{IfSome_then}
-use Rattle.sqlite.specs.Store.{Ghosts}
 use Rattle.sqlite.specs.Held as sql
-use Rattle.sqlite.specs.Held.{state}
-use Rattle.sqlite.specs.State.{HasCleanDisk}
 use Rattle.otp_core.specs.Limits.{Limits}
 use Rattle.token_file.specs.Credential.{Credential}
 use Rattle.floor_store.specs.declared.fault.StoreFault.{StoreFault}
-use Rattle.floor_sql.specs.Held.{SqlHeld}
-use Rattle.oathd_database.specs.Commands.{EndsOutput, HasAudited, HasExported, HasImport, HasOpened, IsRefused}
+use Rattle.oathd_database.specs.Commands.{EndsOutput, HasImport, IsRefused}
 use Rattle.oathd_database.specs.Fault.{IsOutputFault}
-use Rattle.oathd_database.specs.Tables.{KeepsTables, WritesAudit}
-use Rattle.oathd_database.specs.Text.{export_text}
 use Rattle.oathd_database.specs.Users.{IsImported}
 use Rattle.oathd_database.specs.declared.fault.Fault.{Fault}
 use Rattle.oathd_database.specs.declared.fault.Fault.TheVariants.{Memory, CannotWrite, NoClock, Users, Store, Socket}
@@ -55,29 +48,3 @@ module _ (limits : Limits) (moment longest : ℕ) where
           → IfErr result (λ fault. IfSome a (EndsOutput limits moment longest fault))
       ends_output broken (Ok one) is = tt
       ends_output broken (Err fault) is = IfSome_then a has_import (λ text g. failed_output broken fault text g is)
-
-      -- a users file is written
-      pub has_exported : {S T : Type 0} (g : Ghosts S) (finds : sql.Held S → Type 0) (old new : Option (List ℕ)) (store : SqlHeld S) → HasOpened g finds None (length book) store
-          → (result : Result T Fault) → (HasCleanDisk (state g store.conn) → OnOk result (Appends old new (export_text book store.mirror.rows)))
-          → IfOk result (λ _. IfSome a (HasExported g finds limits moment longest old new))
-      has_exported g finds old new store opened (Ok one) written = IfSome_then a h (λ text i. record {
-        import = record { book = book; floors = floors; imported = i };
-        store = store;
-        opened = opened;
-        written = written;
-      })
-      has_exported g finds old new store opened (Err fault) written = tt
-
-      -- passes are written
-      pub has_audited : {S T : Type 0} (g : Ghosts S) (finds : sql.Held S → Type 0) (node : ℕ) (old new : Option (List ℕ)) (found store : SqlHeld S) → HasOpened g finds (Some node) (length book) found
-          → KeepsTables g found store → (result : Result T Fault) → (HasCleanDisk (state g store.conn) → OnOk result (WritesAudit g store old new))
-          → IfOk result (λ _. IfSome a (HasAudited g finds limits moment longest node old new))
-      has_audited g finds node old new found store opened kept (Ok one) written = IfSome_then a h (λ text i. record {
-        import = record { book = book; floors = floors; imported = i };
-        found = found;
-        opened = opened;
-        store = store;
-        kept = kept;
-        written = written;
-      })
-      has_audited g finds node old new found store opened kept (Err fault) written = tt

@@ -8,7 +8,6 @@ mod MadeLemmas
 mod ReadyLemmas
 mod DriftLemmas
 mod LevelLemmas
-mod GateLemmas
 mod UnlockLemmas
 mod ReachLemmas
 mod BootLemmas

@@ -1,20 +1,12 @@
 -- A put and its commit are one write.
-use Rattle.std.proofs.Common.{◌≡◌, ◌⊎◌, inl, inr, ⊎_elim, ℕ, List, length, Option, Some, None, IfSome, IsSome, refl, sym, ap, subst, ◌∙◌, arith}
+use Rattle.std.proofs.Common.{◌≡◌, ◌⊎◌, inl, inr, ⊎_elim, ℕ, Some, None, IsSome, refl, sym, ap, subst, ◌∙◌, arith}
 use Rattle.std.specs.Prelude.{Result, Ok, Err, slice_get}
-use Rattle.std.proofs.lemmas.Option.{IfSome_then}
-use Rattle.sqlite.specs.Store.{Ghosts}
 use Rattle.sqlite.specs.Held as sql
-use Rattle.otp_core.specs.Limits.{Limits}
-use Rattle.token_file.specs.Credential.{Credential, place_of}
 use Rattle.otp_core.specs.Gate.{GateRecord, clear_gate}
 use Rattle.floor_store.specs.Content.{Content, with_row}
 use Rattle.floor_store.specs.Held.{Commits, Held, MayWrite, OldOrNew, Puts}
 use Rattle.floor_store.specs.Records.{RowRecord}
-use Rattle.floor_store.specs.declared.fault.StoreFault.{StoreFault}
-use Rattle.floor_sql.specs.Held.{SqlHeld, sql_held}
-use Rattle.oathd_database.specs.Commands.{HasImport, HasOpened}
-use Rattle.oathd_database.specs.Users.{IsImported}
-use Rattle.oathd_database.specs.Unlock.{LacksUser, Unlocks, unlocked_content, with_unlocked}
+use Rattle.oathd_database.specs.Unlock.{unlocked_content, with_unlocked}
 
 -- the row that was read, with another gate, is the one that is unlocked
 pub unlocked_is : (content : Content) (token : ℕ) (row new : RowRecord) (gate : GateRecord) → new ≡ record row { gate = gate } → gate ≡ clear_gate
@@ -93,27 +85,3 @@ module _ {S : Type 0} (held : S → Held) where
       settled = λ clean settled. tt;
       intact = λ works. tt;
     }
-
-module _ (limits : Limits) (longest : ℕ) (a : Option (List ℕ)) (book : List Credential) (floors : List ℕ)
-    (h : IfSome a (IsImported limits 0 longest book floors)) where
-  -- the users file is imported
-  pub has_import : IfSome a (HasImport limits 0 longest)
-  has_import = IfSome_then a h (λ text i. record { book = book; floors = floors; imported = i })
-
-  module _ (user : List ℕ) where
-    -- the user's token is unlocked
-    pub has_unlocked : {S : Type 0} (g : Ghosts S) (finds : sql.Held S → Type 0) (node token number : ℕ) (old new : SqlHeld S) → place_of user book ≡ Some token → number ≡ token
-        → HasOpened g finds (Some node) (length book) old
-        → MayWrite {A = Unit {0}} {E = StoreFault} (sql_held g) old new (unlocked_content old.mirror number) (Ok tt)
-        → IfSome a (Unlocks g finds limits longest node user new)
-    has_unlocked g finds node token number old new found same opened writes = IfSome_then a h (λ text i. record {
-      known = record { import = record { book = book; floors = floors; imported = i }; token = token; of_user = found };
-      old = old;
-      opened = opened;
-      writes = subst (λ n. MayWrite {A = Unit {0}} {E = StoreFault} (sql_held g) old new (unlocked_content old.mirror n) (Ok tt)) same writes;
-    })
-
-    -- no token has this name
-    pub nobody : (name : List ℕ) → name ≡ user → place_of user book ≡ None → IfSome a (λ text. (name ≡ user) × LacksUser limits longest user text)
-    nobody name same none =
-        IfSome_then a h (λ text i. (same, record { import = record { book = book; floors = floors; imported = i }; of_nobody = none }))

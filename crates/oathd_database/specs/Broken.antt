@@ -31,8 +31,6 @@ use Rattle.oathd_database.specs.declared.fault.Fault.TheVariants.{Users}
 use Rattle.oathd_database.specs.declared.gather.GatherFault.{GatherFault}
 use Rattle.oathd_database.specs.declared.gather.GatherFault.TheVariants.{Floors}
 use Rattle.oathd_database.specs.declared.lost.LostNode.{LostNode}
-use Rattle.oathd_database.specs.declared.unlock.UnlockFault.{UnlockFault}
-use Rattle.oathd_database.specs.declared.unlock.UnlockFault.TheVariants.{NoUser}
 
 -- ---- databases
 
@@ -209,9 +207,3 @@ floors_fault number line kind = Floors number (record { line = line; kind = kind
 -- a store with a content, broken by the disk
 abbrev pub failing : Content → SmallStore
 failing content = record (holding content) { fault = Some Disk; failures = 1 }
-
--- ---- gates
-
--- a fault of a name that no token has
-abbrev pub no_user : List ℕ → UnlockFault
-no_user name = NoUser (record { ref_ptr = (0, 0); now = name })

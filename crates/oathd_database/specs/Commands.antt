@@ -1,8 +1,7 @@
 -- The effects of the commands over a users file and a database.
 --
 -- Floor: the first free factor of a token at a node.
-use Rattle.std.specs.Prelude.{◌≡◌, ℕ, List, Option, None, Some, IfSome, length}
-use Rattle.std.specs.Io.KnownBytes.{Appends}
+use Rattle.std.specs.Prelude.{◌≡◌, ℕ, List, Option, IfSome, length}
 use Rattle.sqlite.specs.Store.{Ghosts}
 use Rattle.sqlite.specs.Held as sql
 use Rattle.sqlite.specs.State.{HasCleanDisk}
@@ -11,8 +10,6 @@ use Rattle.token_file.specs.Credential.{Credential}
 use Rattle.floor_sql.specs.Calls.{IsMade, IsOpened as IsOpenedStore}
 use Rattle.floor_sql.specs.Held.{SqlHeld}
 use Rattle.floor_sql.specs.Migrate.{IsMigrated}
-use Rattle.oathd_database.specs.Tables.{KeepsTables, WritesAudit}
-use Rattle.oathd_database.specs.Text.{export_text}
 use Rattle.oathd_database.specs.Users.{IsImported, IsUnread, drifted_floors}
 use Rattle.oathd_database.specs.declared.fault.Fault.{Fault}
 use Rattle.oathd_database.specs.declared.fault.Fault.TheVariants.{Memory, CannotWrite, NoClock, Users, Store, Socket}
@@ -53,25 +50,6 @@ module _ {S : Type 0} (g : Ghosts S) (finds : sql.Held S → Type 0) where
     pub old : sql.Held S
     pub found : HasCleanDisk (sql.state g old) → finds old
     pub migrated : IsMigrated g node (length import.book) old new
-
-  -- The tokens of the users file are written in order with their floors in the store. The store belongs to the node
-  -- which some database names.
-  pub record HasExported (limits : Limits) (moment longest : ℕ) (old new : Option (List ℕ))
-      (text : List ℕ) : Type 0 where
-    pub import : HasImport limits moment longest text
-    pub store : SqlHeld S
-    pub opened : HasOpened None (length import.book) store
-    pub written : HasCleanDisk (sql.state g store.conn) → Appends old new (export_text import.book store.mirror.rows)
-
-  -- The passes of the node's store are written. The store is in some database and has the tokens of the users file.
-  pub record HasAudited (limits : Limits) (moment longest node : ℕ) (old new : Option (List ℕ))
-      (text : List ℕ) : Type 0 where
-    pub import : HasImport limits moment longest text
-    pub found : SqlHeld S
-    pub opened : HasOpened (Some node) (length import.book) found
-    pub store : SqlHeld S
-    pub kept : KeepsTables g found store
-    pub written : HasCleanDisk (sql.state g store.conn) → WritesAudit g store old new
 
 -- ---- The faults
 

@@ -1,23 +1,19 @@
-//! The command `audit`: prints the passes of a store.
+//! The text of `audit`: the passes of a store.
 
-ghost use Rattle.std.specs.Prelude.{◌≡◌, ◌≢◌, ◌<◌, IfErr, IfOk, IfSome, OnOk, Some};
+ghost use Rattle.std.specs.Prelude.{◌≡◌, ◌≢◌, ◌<◌, IfErr, OnOk};
 ghost use Rattle.std.specs.Io.KnownBytes.{Appends};
 ghost use Rattle.sqlite.specs.Held.{state};
 ghost use Rattle.sqlite.specs.State.{HasCleanDisk};
-ghost use Rattle.otp_core.specs.Limits.{default_limits};
-ghost use Rattle.oathd_database.specs.Commands.{EndsOutput, HasAudited};
 ghost use Rattle.oathd_database.specs.Fault.{IsOutputFault};
 ghost use Rattle.oathd_database.specs.Tables.{KeepsTables, WritesAudit};
 ghost use Rattle.oathd_database.specs.Text.{audit_text, pass_line};
 
-use crate::database::{Database, open_store};
 use crate::fault::Fault;
 use floor_sql::SqlStore;
 use floor_store::Pass;
-use otp_core::Settings;
 use sqlite::Alter;
 use std::alloc::Global;
-use std::io::{Read, Write};
+use std::io::Write;
 
 /// Writes one pass after its number.
 fn write_pass<W: Write>(writer: &mut W, number: u64, pass: Pass) -> Result<(), Fault>
@@ -64,24 +60,4 @@ pub fn write_audit<S: Alter, W: Write>(
     let passes = store.passes(alloc)?;
     write_passes(writer, &passes)?;
     writer.flush().map_err(|_| Fault::CannotWrite)
-}
-
-/// Writes the passes of a node's store, which has the tokens of the users file.
-///
-/// # Errors
-/// - Returns the errors of [`open_store`].
-/// - Returns the errors of [`write_audit`].
-pub fn audit_store<R: Read + Drop, S: Alter + Drop, D: Database<S>, W: Write>(
-    alloc: Global,
-    users: R,
-    node: u8,
-    database: D,
-    writer: &mut W,
-) -> Result<(), Fault>
-    ensures audited { IfOk result (λ _. IfSome (R.remaining users) (HasAudited S.Store D.finds default_limits 0 16777216
-        node (W.contents writer.old) (W.contents writer.new))) }
-    ensures fault { IfErr result (λ fault. IfSome (R.remaining users) (EndsOutput default_limits 0 16777216 fault)) }
-{
-    let (_users, mut store) = open_store(alloc, users, Settings::default(), Some(node), database)?;
-    write_audit(alloc, &mut store, writer)
 }

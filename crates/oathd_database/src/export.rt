@@ -1,20 +1,14 @@
-//! The command `export`: prints a users file with the content of a store.
+//! The text of `export`: a users file with the content of a store.
 
-ghost use Rattle.std.specs.Prelude.{◌≡◌, length, IfErr, IfOk, IfSome, OnOk};
+ghost use Rattle.std.specs.Prelude.{◌≡◌, length, IfErr, OnOk};
 ghost use Rattle.std.specs.Io.KnownBytes.{Appends};
-ghost use Rattle.otp_core.specs.Limits.{default_limits};
-ghost use Rattle.oathd_database.specs.Commands.{EndsOutput, HasExported};
 ghost use Rattle.oathd_database.specs.Fault.{IsOutputFault};
 ghost use Rattle.oathd_database.specs.Text.{export_text};
 
-use crate::database::{Database, open_store};
 use crate::fault::Fault;
 use crate::rows::{RowText, write_tokens};
 use floor_store::{FloorStore, Row};
-use otp_core::Settings;
-use sqlite::Alter;
-use std::alloc::Global;
-use std::io::{self, Read, Write};
+use std::io::{self, Write};
 use token_file::{Book, Token, write_row};
 
 /// The row of a token with its floor, the first free factor.
@@ -50,24 +44,4 @@ pub fn write_rows<S: FloorStore, W: Write>(
     ensures fault { IfErr result (IsOutputFault (S.held store.now).fault) }
 {
     write_tokens::<Exported, S, W>(book, store, writer)
-}
-
-/// Writes each token of the users file with its floor in the store. The store belongs to the node that the database
-/// names.
-///
-/// # Errors
-/// - Returns the errors of [`open_store`].
-/// - Returns the errors of [`write_rows`].
-pub fn export_store<R: Read + Drop, S: Alter + Drop, D: Database<S>, W: Write>(
-    alloc: Global,
-    users: R,
-    database: D,
-    writer: &mut W,
-) -> Result<(), Fault>
-    ensures exported { IfOk result (λ _. IfSome (R.remaining users) (HasExported S.Store D.finds default_limits 0
-        16777216 (W.contents writer.old) (W.contents writer.new))) }
-    ensures fault { IfErr result (λ fault. IfSome (R.remaining users) (EndsOutput default_limits 0 16777216 fault)) }
-{
-    let (users, store) = open_store(alloc, users, Settings::default(), None, database)?;
-    write_rows(&users.book, &store, writer)
 }

@@ -1,20 +1,15 @@
-//! The command `gates`: prints the gates of a store that have failures.
+//! The text of `gates`: the gates of a store that have failures.
 
-ghost use Rattle.std.specs.Prelude.{◌≡◌, length, IfErr, IfOk, IfSome, OnOk};
+ghost use Rattle.std.specs.Prelude.{◌≡◌, length, IfErr, OnOk};
 ghost use Rattle.std.specs.Io.KnownBytes.{Appends};
-ghost use Rattle.otp_core.specs.Limits.{default_limits};
-ghost use Rattle.oathd_database.specs.Commands.{EndsOutput};
 ghost use Rattle.oathd_database.specs.Fault.{IsOutputFault};
-ghost use Rattle.oathd_database.specs.Gates.{HasToldGates, gate_line, gates_text};
+ghost use Rattle.oathd_database.specs.Gates.{gate_line, gates_text};
 
-use crate::database::{Database, open_store};
 use crate::fault::Fault;
 use crate::rows::{RowText, write_tokens};
 use floor_store::{FloorStore, Row};
-use otp_core::{Gate, Settings};
-use sqlite::Alter;
-use std::alloc::Global;
-use std::io::{self, Read, Write};
+use otp_core::Gate;
+use std::io::{self, Write};
 use token_file::{Book, Token};
 
 /// Writes the line of a user's gate.
@@ -65,26 +60,4 @@ pub fn write_gates<S: FloorStore, W: Write>(
     ensures fault { IfErr result (IsOutputFault (S.held store.now).fault) }
 {
     write_tokens::<Gates, S, W>(book, store, writer)
-}
-
-/// Writes the gates of a stopped node that have failures, as [`write_gates`] does. Its store does not change.
-///
-/// The store has the tokens of the users file.
-///
-/// # Errors
-/// - Returns the errors of [`open_store`].
-/// - Returns the errors of [`write_gates`].
-pub fn gates_store<R: Read + Drop, S: Alter + Drop, D: Database<S>, W: Write>(
-    alloc: Global,
-    users: R,
-    node: u8,
-    database: D,
-    writer: &mut W,
-) -> Result<(), Fault>
-    ensures told { IfOk result (λ _. IfSome (R.remaining users) (HasToldGates S.Store D.finds default_limits 16777216
-        node (W.contents writer.old) (W.contents writer.new))) }
-    ensures fault { IfErr result (λ fault. IfSome (R.remaining users) (EndsOutput default_limits 0 16777216 fault)) }
-{
-    let (users, store) = open_store(alloc, users, Settings::default(), Some(node), database)?;
-    write_gates(&users.book, &store, writer)
 }

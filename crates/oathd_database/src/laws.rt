@@ -32,24 +32,23 @@ ghost use Rattle.oath_node.specs.declared.fault.NodeFault.TheVariants.{Spent as 
 ghost use Rattle.oath_node.specs.declared.fault.OpenFault.TheVariants.{Memory as OpenMemory, Store as OpenStore};
 ghost use Rattle.oath_node.specs.declared.serve_fault.ServeFault.TheVariants.{Clock, Node, Port};
 ghost use Rattle.oathd_database.specs.Anew.{AreAbove, AreMadeAnew, IsSameUser};
-ghost use Rattle.oathd_database.specs.Broken.{IsOfClock, IsOfOne, asked_for, conn_of, drifting, failing, fallen, floors_fault, floors_text, lost_nodes, migrating, new_store, no_floors, no_user, no_users, one_book, shows_any, shows_none, small_conn, still, two_disks, users_fault, whole};
-ghost use Rattle.oathd_database.specs.Commands.{EndsOutput, HasAudited, HasExported, HasImport, HasMade, HasMigrated, HasOpened, IsRefused};
+ghost use Rattle.oathd_database.specs.Broken.{IsOfClock, IsOfOne, asked_for, conn_of, drifting, failing, fallen, floors_fault, floors_text, lost_nodes, migrating, new_store, no_floors, no_users, one_book, shows_any, shows_none, small_conn, still, users_fault, whole};
+ghost use Rattle.oathd_database.specs.Commands.{EndsOutput, HasImport, HasMade, HasMigrated, HasOpened, IsRefused};
 ghost use Rattle.oathd_database.specs.Examples.{gate_with, opening_at, row_with, store_with, told_alone, two_closed};
 ghost use Rattle.oathd_database.specs.Fault.{IsOpenFault, IsOutputFault, open_fault_of, serve_fault_of, status_of};
 ghost use Rattle.oathd_database.specs.File.{IsEmptyFile};
 ghost use Rattle.oathd_database.specs.Floors.{HasToldFloors, IsToldFault, told_floors, told_rows};
-ghost use Rattle.oathd_database.specs.Gates.{HasToldGates, gate_line, gate_row, gate_text, gates_text};
+ghost use Rattle.oathd_database.specs.Gates.{gate_line, gate_row, gate_text, gates_text};
 ghost use Rattle.oathd_database.specs.Gather.{gather_status};
 ghost use Rattle.oathd_database.specs.Level.{HasLevelled, IsNotLevelled, IsPartLevelled, Levels, levelled, levelled_rows, told_by};
 ghost use Rattle.oathd_database.specs.Lost.{HasFault, HasRemade, IsGathered, IsNotRemade, IsUngathered, IsUngatheredFor};
 ghost use Rattle.oathd_database.specs.Reach.{AreFound, AreReadAfter, IsLastLoss};
 ghost use Rattle.oathd_database.specs.Tables.{KeepsTables, WritesAudit};
 ghost use Rattle.oathd_database.specs.Text.{WritesToken, audit_text, export_text};
-ghost use Rattle.oathd_database.specs.Unlock.{HasUser, IsNotUnlocked, LacksUser, Unlocks, unlock_status, unlocked_content};
+ghost use Rattle.oathd_database.specs.Unlock.{HasUser, LacksUser, unlocked_content};
 ghost use Rattle.oathd_database.specs.Users.{IsImported, IsUnread, drifted_floors};
 ghost use Rattle.oathd_database.specs.declared.fault.Fault.TheVariants.{CannotWrite, Memory, NoClock, Socket, Store};
 ghost use Rattle.oathd_database.specs.declared.gather.GatherFault.TheVariants.{Command, Files};
-ghost use Rattle.oathd_database.specs.declared.unlock.UnlockFault.TheVariants.{Command as UnlockCommand};
 
 use vote_core::floors_tell_all;
 
@@ -247,32 +246,6 @@ pub fn commands_can_be_broken()
         (Some (audit_text (old_pass ∷ []))) → ⊥ }
     ensures audit_written { WritesAudit (still (tables_at 4 [])) (new_store 4 []) (Some []) (Some (codes "x")) → ⊥ }
 
-    // the users file of a store is written
-    ensures exported { (users : List ℕ) → IsOfOne 0 11 users
-        → HasExported fallen shows_any default_limits 0 11 (Some []) (Some []) users }
-    ensures exported_import { HasExported fallen shows_any default_limits 0 11 (Some []) (Some []) no_users → ⊥ }
-    ensures exported_longest { HasExported fallen shows_any default_limits 0 5 (Some []) (Some []) (codes "# none")
-        → ⊥ }
-    ensures exported_opened { (users : List ℕ) → IsOfOne 0 11 users
-        → HasExported (still (tables_at 4 [])) shows_any default_limits 0 11 (Some []) (Some []) users → ⊥ }
-    ensures exported_written { HasExported (still (tables_at 4 [])) shows_any default_limits 0 11 (Some [])
-        (Some (codes "x")) [] → ⊥ }
-
-    // the passes of a store are written
-    ensures audited { (users : List ℕ) → IsOfOne 0 11 users
-        → HasAudited fallen shows_any default_limits 0 11 1 (Some []) (Some []) users }
-    ensures audited_import { HasAudited fallen shows_any default_limits 0 11 1 (Some []) (Some []) no_users → ⊥ }
-    ensures audited_longest { HasAudited fallen shows_any default_limits 0 5 1 (Some []) (Some []) (codes "# none")
-        → ⊥ }
-    ensures audited_opened { HasAudited (still (tables_at 4 [])) shows_any default_limits 0 11 2 (Some []) (Some []) []
-        → ⊥ }
-    ensures audited_tokens { (users : List ℕ) → IsOfOne 0 11 users
-        → HasAudited (still (tables_at 4 [])) shows_any default_limits 0 11 1 (Some []) (Some []) users → ⊥ }
-    ensures audited_kept { HasAudited two_disks shows_any default_limits 0 11 1 (Some [])
-        (Some (audit_text (old_pass ∷ []))) [] → ⊥ }
-    ensures audited_written { HasAudited (still (tables_at 4 [])) shows_any default_limits 0 11 1 (Some [])
-        (Some (codes "x")) [] → ⊥ }
-
     // the floors file of a store is written
     ensures told { (users : List ℕ) → IsOfOne 0 11 users
         → HasToldFloors fallen shows_any default_limits 11 1 3 5 (Some []) (Some []) users }
@@ -461,28 +434,6 @@ pub fn gates_can_be_broken()
     ensures lacks_longest { LacksUser default_limits 5 (codes "a") (codes "# none") → ⊥ }
     ensures lacks_known { (users : List ℕ) → IsOfOne 0 11 users → LacksUser default_limits 11 (codes "a") users → ⊥ }
 
-    // a user's token is unlocked, or no token is
-    ensures unlocks { (users : List ℕ) → IsOfOne 0 11 users
-        → Unlocks fallen shows_any default_limits 11 1 (codes "a") (new_store 4 (0 ∷ [])) users }
-    ensures unlocks_known { (users : List ℕ) → IsOfOne 0 11 users
-        → Unlocks fallen shows_any default_limits 11 1 (codes "b") (new_store 4 (0 ∷ [])) users → ⊥ }
-    ensures unlocks_opened { (users : List ℕ) → IsOfOne 0 11 users
-        → Unlocks (still (tables_at 4 [])) shows_any default_limits 11 1 (codes "a") (new_store 4 []) users → ⊥ }
-    ensures unlocks_writes { (users : List ℕ) → IsOfOne 0 11 users
-        → Unlocks fallen shows_any default_limits 11 1 (codes "a")
-        (record (new_store 4 (0 ∷ [])) { fault = Some Disk }) users → ⊥ }
-    ensures not_unlocked { (users : List ℕ) → IsOfOne 0 11 users
-        → IsNotUnlocked default_limits 11 (codes "a") (UnlockCommand (Store Disk)) users }
-    ensures not_unlocked_output { IsNotUnlocked default_limits 11 (codes "a") (UnlockCommand CannotWrite) [] → ⊥ }
-    ensures not_unlocked_before_import { IsNotUnlocked default_limits 11 (codes "a") (UnlockCommand (Store Disk))
-        no_users → ⊥ }
-    ensures nobody { IsNotUnlocked default_limits 11 (codes "b") (no_user (codes "b")) [] }
-    ensures nobody_else { IsNotUnlocked default_limits 11 (codes "c") (no_user (codes "b")) [] → ⊥ }
-    ensures nobody_known { (users : List ℕ) → IsOfOne 0 11 users
-        → IsNotUnlocked default_limits 11 (codes "a") (no_user (codes "a")) users → ⊥ }
-    ensures statuses { map unlock_status (UnlockCommand Memory ∷ UnlockCommand (Store Disk) ∷ UnlockCommand Socket ∷
-        no_user (codes "b") ∷ []) ≡ 1 ∷ 3 ∷ 4 ∷ 1 ∷ [] }
-
     // the gate of a token is written
     ensures gate { WritesToken gate_row (event_token (codes "a") ∷ []) (row_with (gate_with 2 10) ∷ []) 0 (Some [])
         (Some (codes "gate a 2 10\n")) }
@@ -492,16 +443,4 @@ pub fn gates_can_be_broken()
         (Some (codes "gate a 3 10\n")) → ⊥ }
     ensures gate_written { WritesToken gate_row (event_token (codes "a") ∷ []) (row_with clear_gate ∷ []) 0 (Some [])
         (Some (codes "x")) → ⊥ }
-
-    // the gates of a store are written
-    ensures told { (users : List ℕ) → IsOfOne 0 11 users
-        → HasToldGates fallen shows_any default_limits 11 1 (Some []) (Some []) users }
-    ensures told_import { HasToldGates fallen shows_any default_limits 11 1 (Some []) (Some []) no_users → ⊥ }
-    ensures told_longest { HasToldGates fallen shows_any default_limits 5 1 (Some []) (Some []) (codes "# none") → ⊥ }
-    ensures told_opened { HasToldGates (still (tables_at 4 [])) shows_any default_limits 11 2 (Some []) (Some []) []
-        → ⊥ }
-    ensures told_tokens { (users : List ℕ) → IsOfOne 0 11 users
-        → HasToldGates (still (tables_at 4 [])) shows_any default_limits 11 1 (Some []) (Some []) users → ⊥ }
-    ensures told_written { HasToldGates (still (tables_at 4 [])) shows_any default_limits 11 1 (Some [])
-        (Some (codes "x")) [] → ⊥ }
 {}

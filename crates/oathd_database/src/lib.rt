@@ -23,14 +23,14 @@ mod rows;
 mod unlock;
 mod users;
 
-pub use audit::{audit_store, write_audit, write_passes};
+pub use audit::{write_audit, write_passes};
 pub use database::{Database, open_store};
-pub use export::{export_store, write_rows};
+pub use export::write_rows;
 pub use fault::Fault;
 pub use file::DatabaseFile;
 pub use file_laws::openings_find_what_is_left;
 pub use floors::{floors_of, floors_store};
-pub use gates::{gates_store, write_gates};
+pub use gates::write_gates;
 pub use gather::GatherFault;
 pub use init::init_store;
 pub use laws::{
@@ -44,5 +44,5 @@ pub use made::{
     init_member_store, made_is_worked, time_tokens_are_ready, write_fresh, write_made, write_store,
 };
 pub use migrate::migrate_store;
-pub use unlock::{UnlockFault, open_gate, unlock_store};
+pub use unlock::open_gate;
 pub use users::{Users, drifted_floors, read_users};

@@ -10,6 +10,8 @@ use Rattle.token_file.specs.Credential.{Credential}
 use Rattle.token_file.specs.Examples.{event_token}
 use Rattle.oathd_seats.specs.declared.fault.SeatsFault.{SeatsFault}
 use Rattle.oathd_seats.specs.declared.fault.SeatsFault.TheVariants.{NoUser}
+use Rattle.oathd_seats.specs.declared.naming.Naming.{Naming}
+use Rattle.oathd_seats.specs.Seen.{at_member}
 
 -- the tokens of two users
 abbrev pub ann_and_bob : List Credential
@@ -30,3 +32,15 @@ nothing_seen = record { inner = new_store 4 []; seats = []; is_unusable = false 
 -- a disk that always shows the store of node 1 with one token
 abbrev pub one_named : Ghosts ℕ
 one_named = still one_token.trees
+
+-- a store whose only token is seen in its row
+abbrev pub one_seen : SeatedRecord (SqlHeld ℕ)
+one_seen = record { inner = new_store 4 (0 ∷ []); seats = 0 ∷ []; is_unusable = false }
+
+-- a store of two tokens with these seats
+abbrev pub two_seen : List ℕ → SeatedRecord (SqlHeld ℕ)
+two_seen seats = record { inner = new_store 4 (5 ∷ 9 ∷ []); seats = seats; is_unusable = false }
+
+-- the naming of node 1 of the cluster
+abbrev pub by_names : Naming
+by_names = at_member 1 small_cluster

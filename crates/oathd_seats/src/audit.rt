@@ -1,44 +1,40 @@
-//! The command `audit` by names: prints the passes of a store.
+//! The command `audit`: prints the passes of a store.
 
 ghost use Rattle.std.specs.Prelude.{IfErr, IfOk, IfSome};
-ghost use Rattle.oathd_seats.specs.Commands.{EndsOutputNamed, HasAuditedNamed};
+ghost use Rattle.oathd_seats.specs.Commands.{EndsOutput, HasAudited};
 
 use crate::fault::SeatsFault;
+use crate::naming::Naming;
 use crate::seeing::see_store;
 use oathd_database::{Database, write_audit};
-use oathd_roster::NamedCluster;
 use otp_core::Settings;
 use sqlite::Alter;
 use std::alloc::Global;
 use std::io::{Read, Write};
 
-/// Writes the committed passes of the store of `node`, as [`write_audit`] does. The store does not change.
+/// Writes the committed passes of a store, as [`write_audit`] does. The store does not change.
 ///
-/// The token of a pass is a row of the store, from 0, as [`roster_named_store`](crate::roster_named_store) counts them.
-/// The passes of retired tokens, which the users file hasn't, are written too.
+/// The token of a pass is a row of the store, from 0. By names, that is a number as
+/// [`roster_named_store`](crate::roster_named_store) counts them, and the passes of retired tokens, which the users
+/// file hasn't, are written too.
 ///
 /// # Errors
-/// - Returns `Roster` with the errors of `read_named_users`. The database is not opened.
-/// - Returns `NotEnrolled` with the first row of the users file whose token the store hasn't.
-/// - Returns `Roster(AnotherCluster)` if the store is bound to another cluster.
-/// - Returns `Roster(Command(Store))` if the tables hold no such store, or the store fails.
-/// - Returns `Roster(Command(CannotWrite))` if the output fails.
-pub fn audit_named_store<'a, R: Read + Drop, S: Alter + Drop, D: Database<S>, W: Write>(
+/// Returns the errors of [`export_store`](crate::export_store).
+pub fn audit_store<'a, R: Read + Drop, S: Alter + Drop, D: Database<S>, W: Write>(
     alloc: Global,
     users: R,
     settings: Settings,
-    node: u8,
-    cluster: &NamedCluster,
+    naming: Naming<'_>,
     database: D,
     writer: &mut W,
 ) -> Result<(), SeatsFault<'a>>
-    ensures audited { IfOk result (λ _. IfSome (R.remaining users) (HasAuditedNamed S.Store D.finds cluster.now
-        settings 16777216 node (W.contents writer.old) (W.contents writer.new))) }
+    ensures audited { IfOk result (λ _. IfSome (R.remaining users) (HasAudited S.Store D.finds naming.entry settings
+        16777216 (W.contents writer.old) (W.contents writer.new))) }
     ensures fault { IfErr result (λ fault. IfSome (R.remaining users)
-        (EndsOutputNamed S.Store D.finds cluster.now settings 16777216 node fault)) }
+        (EndsOutput S.Store D.finds naming.entry settings 16777216 fault)) }
 {
-    let (_named, looked) = see_store(alloc, users, settings, node, cluster, database)?;
-    let mut store = looked.store.into_inner();
+    let (_users, store) = see_store(alloc, users, settings, naming, database)?;
+    let mut store = store.into_inner();
     write_audit(alloc, &mut store, writer)?;
     Ok(())
 }

@@ -1,5 +1,5 @@
 ghost use Rattle.std.specs.Prelude.{◌≡◌};
-ghost use Rattle.oathd_database.specs.declared.fault.Fault.TheVariants.{Store};
+ghost use Rattle.oathd_database.specs.declared.fault.Fault.TheVariants.{Memory, Store};
 ghost use Rattle.oathd_roster.specs.declared.fault.RosterFault.TheVariants.{Command};
 ghost use Rattle.oathd_seats.specs.declared.fault.SeatsFault.TheVariants.{Roster};
 
@@ -7,15 +7,16 @@ use floor_store::StoreFault;
 use oathd_database::Fault;
 use oathd_roster::RosterFault;
 use program_edge::ProgramFault;
+use std::alloc::AllocError;
 use thiserror::Error;
 
-/// A fault that ends a command which looks at a store by names. Its text lacks the program's name.
+/// A fault that ends a command which looks at a store. Its text lacks the program's name.
 #[derive(Clone, Copy, Debug, PartialEq, Eq, Error)]
 pub enum SeatsFault<'a> {
-    /// A fault of any command over a store by names.
+    /// A fault of any command over a store.
     #[error("{0}")]
     Roster(RosterFault),
-    /// The token in this row of the users file, from 1, is the first one without a row in the store.
+    /// The token in this row of the users file, from 1, is the first one whose name no row of the store has.
     #[error("users: NotEnrolled {0}")]
     NotEnrolled(u32),
     /// No token of the users file has this name.
@@ -57,5 +58,13 @@ impl From<StoreFault> for SeatsFault<'_> {
 
     fn from(fault: StoreFault) -> Self {
         SeatsFault::Roster(RosterFault::Command(Fault::Store(fault)))
+    }
+}
+
+impl From<AllocError> for SeatsFault<'_> {
+    ghost from_gives = { λ _ fault. fault ≡ Roster (Command Memory) };
+
+    fn from(_: AllocError) -> Self {
+        SeatsFault::Roster(RosterFault::Command(Fault::Memory))
     }
 }

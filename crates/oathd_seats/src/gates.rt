@@ -1,42 +1,38 @@
-//! The command `gates` by names: prints the gates that have failures of the tokens of a users file.
+//! The command `gates`: prints the gates that have failures of the tokens of a users file.
 
 ghost use Rattle.std.specs.Prelude.{IfErr, IfOk, IfSome};
-ghost use Rattle.oathd_seats.specs.Commands.{EndsOutputNamed, HasToldGatesNamed};
+ghost use Rattle.oathd_seats.specs.Commands.{EndsOutput, HasToldGates};
 
 use crate::fault::SeatsFault;
+use crate::naming::Naming;
 use crate::seeing::see_store;
 use oathd_database::{Database, write_gates};
-use oathd_roster::NamedCluster;
 use otp_core::Settings;
 use sqlite::Alter;
 use std::alloc::Global;
 use std::io::{Read, Write};
 
-/// Writes the gates that have failures in the store of `node`, as [`write_gates`] does. The store does not change.
+/// Writes the gates that have failures in a store, as [`write_gates`] does. The store does not change.
 ///
-/// The tokens stand in the order of the users file. Retired tokens, which the users file hasn't, are left out.
+/// The tokens stand in the order of the users file. By names, retired tokens, which the users file hasn't, are left
+/// out.
 ///
 /// # Errors
-/// - Returns `Roster` with the errors of `read_named_users`. The database is not opened.
-/// - Returns `NotEnrolled` with the first row of the users file whose token the store hasn't.
-/// - Returns `Roster(AnotherCluster)` if the store is bound to another cluster.
-/// - Returns `Roster(Command(Store))` if the tables hold no such store, or the store fails.
-/// - Returns `Roster(Command(CannotWrite))` if the output fails.
-pub fn gates_named_store<'a, R: Read + Drop, S: Alter + Drop, D: Database<S>, W: Write>(
+/// Returns the errors of [`export_store`](crate::export_store).
+pub fn gates_store<'a, R: Read + Drop, S: Alter + Drop, D: Database<S>, W: Write>(
     alloc: Global,
     users: R,
     settings: Settings,
-    node: u8,
-    cluster: &NamedCluster,
+    naming: Naming<'_>,
     database: D,
     writer: &mut W,
 ) -> Result<(), SeatsFault<'a>>
-    ensures told { IfOk result (λ _. IfSome (R.remaining users) (HasToldGatesNamed S.Store D.finds cluster.now
-        settings 16777216 node (W.contents writer.old) (W.contents writer.new))) }
+    ensures told { IfOk result (λ _. IfSome (R.remaining users) (HasToldGates S.Store D.finds naming.entry settings
+        16777216 (W.contents writer.old) (W.contents writer.new))) }
     ensures fault { IfErr result (λ fault. IfSome (R.remaining users)
-        (EndsOutputNamed S.Store D.finds cluster.now settings 16777216 node fault)) }
+        (EndsOutput S.Store D.finds naming.entry settings 16777216 fault)) }
 {
-    let (named, looked) = see_store(alloc, users, settings, node, cluster, database)?;
-    write_gates(&named.users.book, &looked.store, writer)?;
+    let (users, store) = see_store(alloc, users, settings, naming, database)?;
+    write_gates(&users.book, &store, writer)?;
     Ok(())
 }

@@ -4,7 +4,7 @@ ghost use Rattle.std.specs.Prelude.{IfErr, IfOk, IfSome};
 ghost use Rattle.oathd_seats.specs.Commands.{EndsOutputNamed, HasToldRoster};
 
 use crate::fault::SeatsFault;
-use crate::seeing::see_store;
+use crate::seeing::see_named;
 use oathd_database::Database;
 use oathd_roster::{NamedCluster, write_roster};
 use otp_core::Settings;
@@ -39,7 +39,7 @@ pub fn roster_named_store<'a, R: Read + Drop, S: Alter + Drop, D: Database<S>, W
     ensures fault { IfErr result (λ fault. IfSome (R.remaining users)
         (EndsOutputNamed S.Store D.finds cluster.now settings 16777216 node fault)) }
 {
-    let (named, looked) = see_store(alloc, users, settings, node, cluster, database)?;
+    let (named, looked) = see_named(alloc, users, settings, node, cluster, database)?;
     let store = looked.store.into_inner();
     write_roster(
         &named.users.book,

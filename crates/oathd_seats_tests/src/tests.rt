@@ -2,11 +2,10 @@
 
 use floor_sql::SqlStore;
 use floor_store::{FloorStore, Pass, Span, StoreFault};
-use oathd_database::{Database, Fault};
+use oathd_database::{Database, Fault, init_store};
 use oathd_roster::{NamedCluster, RosterFault, read_named_users};
 use oathd_seats::{
-    SeatsFault, audit_named_store, export_named_store, gates_named_store, roster_named_store,
-    unlock_named_store,
+    Naming, SeatsFault, audit_store, export_store, gates_store, roster_named_store, unlock_store,
 };
 use otp_core::{Factor, Gate, Next, Settings};
 use program_edge::ProgramFault;
@@ -33,6 +32,13 @@ const ROSTER: &[u8] = b"row 0 5cb0460e92720059b321966bf3ace45e 20 silver\n\
 /// The users file with the floors of the store. That of a time token is not written.
 const EXPORT: &[u8] = b"HOTP/T30/8/SHA256\tann\t-\t00ff\n\
     HOTP/E/6\tsilver\tpw\t3132333435363738393031323334353637383930\t20\n";
+
+/// The users file with the floors of a new store by places.
+const PLACED: &[u8] = b"HOTP/T30/8/SHA256\tann\t-\t00ff\n\
+    HOTP/E/6\tsilver\tpw\t3132333435363738393031323334353637383930\t0\n";
+
+/// The gate of silver in it.
+const PLACED_GATES: &[u8] = b"gate silver 1 105\n";
 
 /// The pass of the retired token in a used store.
 const AUDIT: &[u8] = b"pass 1 1 29 29 7 1\n";
@@ -112,7 +118,8 @@ fn printed(
     let database = made(alloc, own)?;
     roster_named_store(alloc, users, settings, node, cluster, database, &mut roster)?;
     let database = made(alloc, own)?;
-    export_named_store(alloc, users, settings, node, cluster, database, &mut export)?;
+    let naming = Naming::ByName(node, cluster);
+    export_store(alloc, users, settings, naming, database, &mut export)?;
     Ok((roster, export))
 }
 
@@ -123,15 +130,8 @@ fn unlocked<'a>(
     cluster: &NamedCluster,
     database: InMemory,
 ) -> Result<SqlStore<MemStore>, SeatsFault<'a>> {
-    unlock_named_store(
-        alloc,
-        USERS,
-        Settings::default(),
-        3,
-        user,
-        cluster,
-        database,
-    )
+    let (settings, naming) = (Settings::default(), Naming::ByName(3, cluster));
+    unlock_store(alloc, USERS, settings, naming, user, database)
 }
 
 /// Returns a pass of the retired token.
@@ -173,8 +173,9 @@ fn looked(
 ) -> Result<(Vec<u8>, Vec<u8>), SeatsFault<'static>> {
     let settings = Settings::default();
     let (mut audit, mut gates) = (Vec::new(alloc), Vec::new(alloc));
-    audit_named_store(alloc, USERS, settings, 3, cluster, first, &mut audit)?;
-    gates_named_store(alloc, USERS, settings, 3, cluster, second, &mut gates)?;
+    let naming = Naming::ByName(3, cluster);
+    audit_store(alloc, USERS, settings, naming, first, &mut audit)?;
+    gates_store(alloc, USERS, settings, naming, second, &mut gates)?;
     Ok((audit, gates))
 }
 
@@ -236,5 +237,59 @@ fn faults_are_told(rt: HostRuntime) -> Result<(), Fail> {
     assert!(rt; format!(in alloc; "{nobody}")?.as_str() == "no such user: eve");
     let disk = SeatsFault::from(StoreFault::Disk);
     assert!(rt; format!(in alloc; "{disk}")?.as_str() == "store: Disk" && disk.status() == 3);
+    Ok(())
+}
+
+/// Returns a database whose store of node 3 has the tokens of `USERS` by places, and a failure of silver.
+fn placed(alloc: Global) -> Result<InMemory, SeatsFault<'static>> {
+    let Ok(conn) = Connection::open_in_memory(alloc) else {
+        return Err(SeatsFault::from(Fault::Memory));
+    };
+    let mut store = init_store(alloc, USERS, Settings::default(), 0, 3, InMemory(conn))?;
+    let Some(gate) = Gate::new(1, 105) else {
+        return Err(SeatsFault::from(Fault::Memory));
+    };
+    if store.tokens() != 2 {
+        return Err(SeatsFault::from(Fault::Memory));
+    }
+    let silver = store.row(1)?;
+    store.put(1, silver.with_gate(gate), None)?;
+    store.commit()?;
+    Ok(InMemory(store.close()))
+}
+
+/// Returns the users file and the gates of the store in the databases, by places.
+fn seen(
+    alloc: Global,
+    node: Option<u8>,
+    first: InMemory,
+    second: InMemory,
+) -> Result<(Vec<u8>, Vec<u8>), SeatsFault<'static>> {
+    let (settings, naming) = (Settings::default(), Naming::ByPlace(node));
+    let (mut export, mut gates) = (Vec::new(alloc), Vec::new(alloc));
+    export_store(alloc, USERS, settings, naming, first, &mut export)?;
+    gates_store(alloc, USERS, settings, naming, second, &mut gates)?;
+    Ok((export, gates))
+}
+
+/// Returns the database of the store by places, after the failures of silver are cleared.
+fn opened(alloc: Global) -> Result<InMemory, SeatsFault<'static>> {
+    let (settings, naming) = (Settings::default(), Naming::ByPlace(Some(3)));
+    let store = unlock_store(alloc, USERS, settings, naming, "silver", placed(alloc)?)?;
+    Ok(InMemory(store.close()))
+}
+
+/// By places: what is printed of a store of any node and of its own, another node, and an unlocking.
+#[test]
+fn places_are_seen(rt: HostRuntime) -> Result<(), Fail> {
+    let alloc = rt.alloc();
+    let (export, gates) = seen(alloc, None, placed(alloc)?, placed(alloc)?)?;
+    assert!(rt; export.as_slice() == PLACED && gates.as_slice() == PLACED_GATES);
+    let (export, gates) = seen(alloc, Some(3), placed(alloc)?, opened(alloc)?)?;
+    assert!(rt; export.as_slice() == PLACED && gates.is_empty());
+    let Err(node) = seen(alloc, Some(2), placed(alloc)?, placed(alloc)?) else {
+        return Err(Fail::new("another node"));
+    };
+    assert!(rt; node == SeatsFault::from(StoreFault::Unusable));
     Ok(())
 }

@@ -23,7 +23,7 @@ use Rattle.oathd_serving.specs.Serve.{IsAskedFor}
 use Rattle.oathd_site.specs.Fault.{IsOfTask}
 use Rattle.oathd_site.specs.Users.{IsOfUsers}
 use Rattle.oathd_site.specs.declared.fault.Fault.{Fault}
-use Rattle.oathd_site.specs.declared.fault.Fault.TheVariants.{Database, Floors, Task, Unlock, Roster, Seats, Names}
+use Rattle.oathd_site.specs.declared.fault.Fault.TheVariants.{Database, Floors, Task, Roster, Seats, Names}
 use Rattle.oathd_serving.proofs.ServeLemmas.{ends_as_asked, not_imported}
 
 module _ {S : Type 0} (g : Ghosts S) (finds : sql.Held S → Type 0) where
@@ -78,7 +78,6 @@ module _ {S : Type 0} (g : Ghosts S) (finds : sql.Held S → Type 0) where
           let ends = not_imported serving.settings moment 16777216 fault is.0 is.1 in
           ended_named (Command fault) is.0 (inl ends)
       users_named (Floors fault) is = absurd is
-      users_named (Unlock fault) is = absurd is
       users_named (Roster fault) is = absurd is
       users_named (Seats fault) is = absurd is
       users_named (Names fault) is = absurd is
@@ -125,7 +124,6 @@ module _ {S : Type 0} (g : Ghosts S) (finds : sql.Held S → Type 0) where
     named_as_asked (Err (Database (Store fault))) h = same_named (Command (Store fault)) h
     named_as_asked (Err (Database Socket)) h = same_named (Command Socket) h
     named_as_asked (Err (Floors fault)) h = h
-    named_as_asked (Err (Unlock fault)) h = h
     named_as_asked (Err (Roster fault)) h = same_named fault h
     named_as_asked (Err (Seats fault)) h = h
     named_as_asked (Err (Names fault)) h = h
@@ -137,14 +135,12 @@ module _ {S : Type 0} (g : Ghosts S) (finds : sql.Held S → Type 0) where
   ends_by_files IsAsked text None (Names fault) is = absurd is
   ends_by_files IsAsked text None (Database fault) is = absurd is
   ends_by_files IsAsked text None (Floors fault) is = absurd is
-  ends_by_files IsAsked text None (Unlock fault) is = absurd is
   ends_by_files IsAsked text None (Roster fault) is = absurd is
   ends_by_files IsAsked text None (Seats fault) is = absurd is
   ends_by_files IsAsked text (Some names) (Task fault) is = tt
   ends_by_files IsAsked text (Some names) (Names fault) is = absurd is
   ends_by_files IsAsked text (Some names) (Database fault) is = absurd is
   ends_by_files IsAsked text (Some names) (Floors fault) is = absurd is
-  ends_by_files IsAsked text (Some names) (Unlock fault) is = absurd is
   ends_by_files IsAsked text (Some names) (Roster fault) is = absurd is
   ends_by_files IsAsked text (Some names) (Seats fault) is = absurd is
 

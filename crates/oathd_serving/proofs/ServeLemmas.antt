@@ -14,7 +14,7 @@ use Rattle.oathd_serving.specs.Serve.{EndsAsAsked, IsServedAsAsked, ServeEndsSo}
 use Rattle.oathd_site.specs.Fault.{IsOfTask}
 use Rattle.oathd_site.specs.Users.{IsOfUsers}
 use Rattle.oathd_site.specs.declared.fault.Fault.{Fault}
-use Rattle.oathd_site.specs.declared.fault.Fault.TheVariants.{Database, Floors, Task, Unlock, Roster, Seats, Names}
+use Rattle.oathd_site.specs.declared.fault.Fault.TheVariants.{Database, Floors, Task, Roster, Seats, Names}
 
 -- a users file is not imported
 pub not_imported : (limits : Limits) (moment longest : ℕ) (fault : database.Fault) (text : List ℕ) → IsUnread limits moment longest fault text
@@ -41,7 +41,6 @@ module _ {S : Type 0} (g : Ghosts S) (finds : sql.Held S → Type 0) (IsAsked : 
   ends_by_task (Task fault) is = tt
   ends_by_task (Database fault) is = absurd is
   ends_by_task (Floors fault) is = absurd is
-  ends_by_task (Unlock fault) is = absurd is
   ends_by_task (Roster fault) is = absurd is
   ends_by_task (Seats fault) is = absurd is
   ends_by_task (Names fault) is = absurd is
@@ -62,7 +61,6 @@ module _ {S : Type 0} (g : Ghosts S) (finds : sql.Held S → Type 0) (IsAsked : 
         let ends = not_imported serving.settings 0 16777216 fault is.0 is.1 in
         ends_by fault (record { serving = serving; asked = asked; users = is.0; ends = inl ends })
     users_end (Floors fault) is = absurd is
-    users_end (Unlock fault) is = absurd is
     users_end (Roster fault) is = absurd is
     users_end (Seats fault) is = absurd is
     users_end (Names fault) is = absurd is
@@ -83,7 +81,6 @@ module _ {S : Type 0} (g : Ghosts S) (finds : sql.Held S → Type 0) (IsAsked : 
     ends_as_asked (Err (Database (Store fault))) h = same_end (Store fault) h
     ends_as_asked (Err (Database Socket)) h = same_end Socket h
     ends_as_asked (Err (Floors fault)) h = h
-    ends_as_asked (Err (Unlock fault)) h = h
     ends_as_asked (Err (Roster fault)) h = h
     ends_as_asked (Err (Seats fault)) h = h
     ends_as_asked (Err (Names fault)) h = h

@@ -15,7 +15,7 @@ use Rattle.oathd_roster.specs.declared.fault.RosterFault.{RosterFault}
 use Rattle.oathd_roster.specs.declared.fault.RosterFault.TheVariants.{Command}
 use Rattle.oathd_serving.specs.Serve.{ServeEndsSo}
 use Rattle.oathd_site.specs.declared.fault.Fault.{Fault}
-use Rattle.oathd_site.specs.declared.fault.Fault.TheVariants.{Database, Floors, Task, Unlock, Roster, Seats, Names}
+use Rattle.oathd_site.specs.declared.fault.Fault.TheVariants.{Database, Floors, Task, Roster, Seats, Names}
 use Rattle.oathd_site.specs.Names.{names_in, IsNamedOf}
 
 -- the word of the names, if the words name a cluster file with one
@@ -68,7 +68,6 @@ module _ {S : Type 0} (g : Ghosts S) (finds : sql.Held S → Type 0) where
     NamedEndsSo (Err (Database Socket)) = EndsByNames (Command Socket)
     NamedEndsSo (Err (Roster fault)) = EndsByNames fault
     NamedEndsSo (Err (Floors fault)) = ⊥
-    NamedEndsSo (Err (Unlock fault)) = ⊥
     NamedEndsSo (Err (Seats fault)) = ⊥
     NamedEndsSo (Err (Names fault)) = ⊥
 

@@ -21,7 +21,7 @@ use Rattle.oathd_roster.specs.declared.fault.RosterFault.TheVariants as roster
 use Rattle.oathd_site.specs.Names.{IsNamedOf}
 use Rattle.oathd_serving.specs.Ends.{IsServedByNames}
 use Rattle.oathd_site.specs.declared.fault.Fault.{Fault}
-use Rattle.oathd_site.specs.declared.fault.Fault.TheVariants.{Database, Floors, Task, Unlock, Roster, Seats, Names}
+use Rattle.oathd_site.specs.declared.fault.Fault.TheVariants.{Database, Floors, Task, Roster, Seats, Names}
 use Rattle.oathd_serving.specs.declared.refusal.Refusal.{Refusal}
 use Rattle.oathd_serving.specs.declared.refusal.Refusal.TheVariants.{Line, SameName, NoTokens, CannotRead, Memory}
 use Rattle.oathd_serving.specs.declared.reload.Boot.{Boot}
@@ -51,7 +51,6 @@ abbrev pub file_reason_of : Fault → Refusal
 file_reason_of (Database fault) = reason_of fault
 file_reason_of (Task fault) = CannotRead
 file_reason_of (Floors fault) = CannotRead
-file_reason_of (Unlock fault) = CannotRead
 file_reason_of (Roster fault) = CannotRead
 file_reason_of (Seats fault) = CannotRead
 file_reason_of (Names fault) = CannotRead

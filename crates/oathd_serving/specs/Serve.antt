@@ -26,7 +26,7 @@ use Rattle.node_serving.specs.declared.gate.ClientLines.TheVariants.{Anybody, Th
 use Rattle.node_serving.specs.declared.node_key.NodeKey.TheVariants.{Own}
 use Rattle.node_serving.specs.declared.serving.Serving.{Serving}
 use Rattle.oathd_site.specs.declared.fault.Fault.{Fault}
-use Rattle.oathd_site.specs.declared.fault.Fault.TheVariants.{Database, Floors, Task, Unlock, Roster, Seats, Names}
+use Rattle.oathd_site.specs.declared.fault.Fault.TheVariants.{Database, Floors, Task, Roster, Seats, Names}
 
 -- ---- The parameters of the node
 
@@ -102,7 +102,6 @@ module _ {S : Type 0} (g : Ghosts S) (finds : sql.Held S → Type 0) (IsAsked : 
   ServeEndsSo (Err (Database (Store fault))) = EndsAsAsked (Store fault)
   ServeEndsSo (Err (Database Socket)) = EndsAsAsked Socket
   ServeEndsSo (Err (Floors fault)) = ⊥
-  ServeEndsSo (Err (Unlock fault)) = ⊥
   ServeEndsSo (Err (Roster fault)) = ⊥
   ServeEndsSo (Err (Seats fault)) = ⊥
   ServeEndsSo (Err (Names fault)) = ⊥

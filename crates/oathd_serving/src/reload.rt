@@ -17,7 +17,7 @@ use floor_store::StoreFault;
 use named_serving::serve_named_store;
 use node_serving::{KeptSocket, Serving};
 use oathd_roster::{NamedCluster, read_named_users};
-use oathd_site::{Fault, NamesFault, Site, Standing, named_cluster, present_moment, users_text};
+use oathd_site::{Fault, FilesBefore, NamesFault, Site, named_cluster, present_moment, users_text};
 use oathd_tasks::{cluster_in, cluster_key, member_place};
 use oathd_words::{ClientWords, ClusterWords};
 use otp_core::Settings;
@@ -155,8 +155,8 @@ fn serve_boot<'a, S: Start, O: Write>(
 }
 
 /// Refuses to open the store again after a file of it was removed or replaced.
-fn check_standing<'a>(site: &Site<'_, 'a>, standing: Standing) -> Result<(), Fault<'a>> {
-    if standing.is_over(site.rt, site.database) {
+fn check_files<'a>(site: &Site<'_, 'a>, files: FilesBefore) -> Result<(), Fault<'a>> {
+    if files.is_replaced(site.rt, site.database) {
         return Err(Fault::from(oathd_database::Fault::Store(StoreFault::Disk)));
     }
     Ok(())
@@ -183,10 +183,10 @@ fn serve_boots<'a, S: Start, O: Write>(
     let mut socket = KeptSocket::new();
     let turns = serving.turns;
     let first = Boot { text, taken, turns };
-    let standing = Standing::at(site.rt, site.database);
+    let files = FilesBefore::at(site.rt, site.database);
     let mut boot = serve_boot(site, start, cluster, &serving, first, &mut socket, log)?;
     while boot.turns > 0 {
-        check_standing(site, standing)?;
+        check_files(site, files)?;
         boot = serve_boot(site, Unknown, cluster, &serving, boot, &mut socket, log)?;
     }
     Ok(())

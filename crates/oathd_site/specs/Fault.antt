@@ -2,7 +2,6 @@
 use Rattle.std.specs.Prelude.{ℕ}
 use Rattle.oathd_tasks.specs.Fault as tasks
 use Rattle.oathd_database.specs.Fault as database
-use Rattle.oathd_database.specs.Unlock.{unlock_status}
 use Rattle.oathd_roster.specs.Fault.{roster_status}
 use Rattle.oathd_seats.specs.Fault.{seats_status}
 use Rattle.oathd_roster.specs.declared.fault.RosterFault.{RosterFault}
@@ -10,14 +9,13 @@ use Rattle.oathd_roster.specs.declared.fault.RosterFault.TheVariants.{Command, S
 use Rattle.oathd_seats.specs.declared.fault.SeatsFault.{SeatsFault}
 use Rattle.oathd_seats.specs.declared.fault.SeatsFault.TheVariants as seats
 use Rattle.oathd_site.specs.declared.fault.Fault.{Fault}
-use Rattle.oathd_site.specs.declared.fault.Fault.TheVariants.{Database, Floors, Task, Unlock, Roster, Seats, Names}
+use Rattle.oathd_site.specs.declared.fault.Fault.TheVariants.{Database, Floors, Task, Roster, Seats, Names}
 
 -- the exit status: the status of the command's fault, or 1 for a fault of floors files or of names
 abbrev pub status_of : Fault → ℕ
 status_of (Task fault) = tasks.status_of fault
 status_of (Database fault) = database.status_of fault
 status_of (Floors fault) = 1
-status_of (Unlock fault) = unlock_status fault
 status_of (Roster fault) = roster_status fault
 status_of (Seats fault) = seats_status fault
 status_of (Names fault) = 1
@@ -27,7 +25,7 @@ abbrev pub IsOfTask : Fault → Type 0
 IsOfTask (Task fault) = Unit {0}
 IsOfTask fault = ⊥
 
--- the fault of the program for that of a command over a store by names
+-- the fault of the program for that of a command over a store
 abbrev pub fault_of : RosterFault → Fault
 fault_of (Command fault) = Database fault
 fault_of (SameName row) = Roster (SameName row)

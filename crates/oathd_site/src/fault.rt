@@ -1,6 +1,5 @@
 use crate::floors::PathFault;
 use crate::names::NamesFault;
-use oathd_database::UnlockFault;
 use oathd_floors::NamingFault;
 use oathd_roster::RosterFault;
 use oathd_seats::SeatsFault;
@@ -19,13 +18,10 @@ pub enum Fault<'a> {
     /// The floors files have a fault, or are insufficient.
     #[error("{0}")]
     Floors(PathFault<'a>),
-    /// A fault of the command `unlock`.
-    #[error("{0}")]
-    Unlock(UnlockFault<'a>),
     /// A fault of a command over a store by names, and of no other one.
     #[error("{0}")]
     Roster(RosterFault),
-    /// A fault of a command that looks at a store by names, and of no other one.
+    /// A fault of a command that looks at a store, and of no other one.
     #[error("{0}")]
     Seats(SeatsFault<'a>),
     /// The words, the cluster file or the users file don't fit a store by names.
@@ -43,7 +39,6 @@ impl ProgramFault for Fault<'_> {
             Fault::Task(fault) => fault.status(),
             Fault::Database(fault) => fault.status(),
             Fault::Floors(fault) => fault.status(),
-            Fault::Unlock(fault) => fault.status(),
             Fault::Roster(fault) => fault.status(),
             Fault::Seats(fault) => fault.status(),
             Fault::Names(_) => 1,
@@ -76,17 +71,6 @@ impl From<oathd_database::Fault> for Fault<'_> {
 
     fn from(fault: oathd_database::Fault) -> Self {
         Fault::Database(fault)
-    }
-}
-
-impl<'a> From<UnlockFault<'a>> for Fault<'a> {
-    ghost use Rattle.std.specs.Prelude.{◌≡◌};
-    ghost use Rattle.oathd_site.specs.declared.fault.Fault.TheVariants.{Unlock};
-
-    ghost from_gives = { λ unlock fault. fault ≡ Unlock unlock };
-
-    fn from(fault: UnlockFault<'a>) -> Self {
-        Fault::Unlock(fault)
     }
 }
 

@@ -9,7 +9,9 @@ ghost use Rattle.oathd_lines.specs.Examples.{fault_at, time_line};
 ghost use Rattle.oathd_lines.specs.declared.fault.Fault.TheVariants.{BadKey, CannotRead, CannotWrite, InputLine, Memory, NotText, Users};
 ghost use Rattle.oathd_cluster.specs.declared.fault.Fault.TheVariants as clusters;
 ghost use Rattle.oathd_sim.specs.declared.fault.Fault.TheVariants as sims;
-ghost use Rattle.oathd_words.specs.declared.store_words.Action.TheVariants.{Export};
+ghost use Rattle.oathd_words.specs.declared.store_words.Action.TheVariants.{Look};
+ghost use Rattle.oathd_words.specs.declared.store_words.Look.TheVariants.{Export};
+ghost use Rattle.oathd_words.specs.declared.store_words.Owner.TheVariants.{Any};
 ghost use Rattle.oathd_words.specs.declared.words.Task.TheVariants as tasks;
 ghost use Rattle.oathd_tasks.specs.Broken.{EndsGiven, EndsNamed, checked, clients_fault, done, ended_by, file_fault, found_at, given_nodes, given_row, keyed, keyed_cluster, keyed_text, marked, named_nodes, narrow_limits, no_path, nodes_with_key, one_token, run_ended_by, setup_of, shared_rows, small_text, told_sources, users_fault, usual_setup, word};
 ghost use Rattle.shared_secrets.specs.Examples.{shared_by};
@@ -284,11 +286,12 @@ pub fn tasks_can_be_broken()
         (ended_by (Cluster (clusters.InputLine 1))) (Some []) (Some []) }
     ensures cluster_ends_as_clusters { EndsAsAsked (tasks.Cluster (word []) (given_nodes 1) 5) [] (Some (codes "2 1 x"))
         done (Some []) (Some (codes "2 -\n")) → ⊥ }
-    ensures store { EndsAsAsked (tasks.Store (word []) (word []) Export) [] None (ended_by NoDatabases)
+    ensures store { EndsAsAsked (tasks.Store (word []) (word []) (Look Any Export)) [] None (ended_by NoDatabases)
         (Some []) (Some []) }
-    ensures store_is_done { EndsAsAsked (tasks.Store (word []) (word []) Export) [] None done (Some []) (Some []) → ⊥ }
-    ensures store_writes { EndsAsAsked (tasks.Store (word []) (word []) Export) [] None (ended_by NoDatabases)
-        (Some []) (Some (codes "x")) → ⊥ }
+    ensures store_is_done { EndsAsAsked (tasks.Store (word []) (word []) (Look Any Export)) [] None done
+        (Some []) (Some []) → ⊥ }
+    ensures store_writes { EndsAsAsked (tasks.Store (word []) (word []) (Look Any Export)) [] None
+        (ended_by NoDatabases) (Some []) (Some (codes "x")) → ⊥ }
     ensures check { EndsAsAsked (tasks.Check (word []) (word [])) [] None (ended_by (file_fault 1 NoMembers))
         (Some []) (Some []) }
     ensures check_of_no_file { EndsAsAsked (tasks.Check (word []) (word [])) [] None done

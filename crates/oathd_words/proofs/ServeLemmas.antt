@@ -8,11 +8,13 @@ use Rattle.otp_core.specs.Limits.{Limits}
 use Rattle.vote_core.specs.NodeSet.{PlaceRecord}
 use Rattle.oathd_words.specs.Members.{AreMembers, SayAddresses, parts_of}
 use Rattle.oathd_words.specs.Given.{GivesLimits, GivesMember}
-use Rattle.oathd_words.specs.StoreWords.{AsksForAct, AsksForAction, AsksForCluster, AsksForLog, GivesPlace, turns_given}
+use Rattle.oathd_words.specs.StoreWords.{AsksForAct, AsksForAction, AsksForCluster, AsksForLog, AsksForLook, GivesPlace, turns_given}
 use Rattle.oathd_words.specs.declared.store_words.Action.{Action}
 use Rattle.oathd_words.specs.declared.store_words.Action.TheVariants as actions
-use Rattle.oathd_words.specs.declared.store_words.Action.TheVariants.{Init, Remake, Serve, Export, Audit, Migrate, Floors, Level, Gates, Unlock}
+use Rattle.oathd_words.specs.declared.store_words.Action.TheVariants.{Init, Remake, Serve, Look as Looks, Migrate, Floors, Level}
 use Rattle.oathd_words.specs.declared.store_words.LogWords.{LogWords}
+use Rattle.oathd_words.specs.declared.store_words.Look.{Look}
+use Rattle.oathd_words.specs.declared.store_words.Look.TheVariants.{Export, Audit, Gates, Unlock}
 use Rattle.oathd_words.specs.declared.store_words.NamedAct.{NamedAct}
 use Rattle.oathd_words.specs.declared.store_words.NamedAct.TheVariants as acts
 use Rattle.oathd_words.specs.declared.store_words.ClusterWords.{ClusterWords}
@@ -51,13 +53,16 @@ module _ (found : Found) where
   no_member path named none (Given settings place others key) asks = let clash = sym named ∙ asks.0 in absurd cc
   no_member path named none (Named node other) asks = none node asks.1
 
+  -- a store is served by no look at it
+  no_look : (look : Look) → AsksForLook (codes "serve") found look → ⊥
+  no_look Export asks = apart (codes "serve") _ _ asks refl (lit< tt)
+  no_look Audit asks = apart (codes "serve") _ _ asks refl (lit< tt)
+  no_look Gates asks = apart (codes "serve") _ _ asks refl (lit< tt)
+  no_look (Unlock user) asks = apart (codes "serve") _ _ refl asks.0 (lit< tt)
+
   -- a store by names is served by no act on it
   no_act : (act : NamedAct) → AsksForAct (codes "serve") found act → ⊥
   no_act acts.Begin asks = apart (codes "serve") _ _ asks.0 refl (lit< tt)
-  no_act acts.Export asks = apart (codes "serve") _ _ asks refl (lit< tt)
-  no_act acts.Audit asks = apart (codes "serve") _ _ asks refl (lit< tt)
-  no_act acts.Gates asks = apart (codes "serve") _ _ asks refl (lit< tt)
-  no_act (acts.Unlock user) asks = apart (codes "serve") _ _ refl asks.0 (lit< tt)
   no_act acts.Roster asks = apart (codes "serve") _ _ asks.0 refl (lit< tt)
   no_act acts.DropRetired asks = apart (codes "serve") _ _ asks.0 refl (lit< tt)
   no_act (acts.Migrate members) asks = apart (codes "serve") _ _ asks.0 refl (lit< tt)
@@ -68,13 +73,10 @@ module _ (found : Found) where
   no_cluster none (Init node settings moment) asks = apart (codes "serve") _ _ asks.0 refl (lit< tt)
   no_cluster none (Remake node settings moment former) asks = apart (codes "serve") _ _ asks.0 refl (lit< tt)
   no_cluster none (Serve cluster turns log clients reloads) asks = none cluster asks.1
-  no_cluster none Export asks = apart (codes "serve") _ _ asks.0 refl (lit< tt)
-  no_cluster none (Audit node) asks = apart (codes "serve") _ _ asks.0 refl (lit< tt)
+  no_cluster none (Looks owner look) asks = no_look look asks.0
   no_cluster none (Migrate node) asks = apart (codes "serve") _ _ asks.0 refl (lit< tt)
   no_cluster none (Floors node count) asks = apart (codes "serve") _ _ asks.0 refl (lit< tt)
   no_cluster none (Level node floors) asks = apart (codes "serve") _ _ asks.0 refl (lit< tt)
-  no_cluster none (Gates node) asks = apart (codes "serve") _ _ asks.0 refl (lit< tt)
-  no_cluster none (Unlock node user) asks = apart (codes "serve") _ _ refl asks.0 (lit< tt)
   no_cluster none (actions.Named node path act) asks = no_act act asks.2
 
   -- if `turns_given` is None, no action is asked for
@@ -82,13 +84,10 @@ module _ (found : Found) where
   no_turns none (Init node settings moment) asks = apart (codes "serve") _ _ asks.0 refl (lit< tt)
   no_turns none (Remake node settings moment former) asks = apart (codes "serve") _ _ asks.0 refl (lit< tt)
   no_turns none (Serve cluster turns log clients reloads) asks = let clash = sym none ∙ asks.2 in absurd cc
-  no_turns none Export asks = apart (codes "serve") _ _ asks.0 refl (lit< tt)
-  no_turns none (Audit node) asks = apart (codes "serve") _ _ asks.0 refl (lit< tt)
+  no_turns none (Looks owner look) asks = no_look look asks.0
   no_turns none (Migrate node) asks = apart (codes "serve") _ _ asks.0 refl (lit< tt)
   no_turns none (Floors node count) asks = apart (codes "serve") _ _ asks.0 refl (lit< tt)
   no_turns none (Level node floors) asks = apart (codes "serve") _ _ asks.0 refl (lit< tt)
-  no_turns none (Gates node) asks = apart (codes "serve") _ _ asks.0 refl (lit< tt)
-  no_turns none (Unlock node user) asks = apart (codes "serve") _ _ refl asks.0 (lit< tt)
   no_turns none (actions.Named node path act) asks = no_act act asks.2
 
   -- if no log is asked for, no action is
@@ -96,11 +95,8 @@ module _ (found : Found) where
   no_log none (Init node settings moment) asks = apart (codes "serve") _ _ asks.0 refl (lit< tt)
   no_log none (Remake node settings moment former) asks = apart (codes "serve") _ _ asks.0 refl (lit< tt)
   no_log none (Serve cluster turns log clients reloads) asks = none log asks.3
-  no_log none Export asks = apart (codes "serve") _ _ asks.0 refl (lit< tt)
-  no_log none (Audit node) asks = apart (codes "serve") _ _ asks.0 refl (lit< tt)
+  no_log none (Looks owner look) asks = no_look look asks.0
   no_log none (Migrate node) asks = apart (codes "serve") _ _ asks.0 refl (lit< tt)
   no_log none (Floors node count) asks = apart (codes "serve") _ _ asks.0 refl (lit< tt)
   no_log none (Level node floors) asks = apart (codes "serve") _ _ asks.0 refl (lit< tt)
-  no_log none (Gates node) asks = apart (codes "serve") _ _ asks.0 refl (lit< tt)
-  no_log none (Unlock node user) asks = apart (codes "serve") _ _ refl asks.0 (lit< tt)
   no_log none (actions.Named node path act) asks = no_act act asks.2

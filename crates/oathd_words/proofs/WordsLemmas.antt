@@ -1,6 +1,7 @@
 -- What the words of a command don't ask for.
 use Rattle.std.proofs.Common.{◌≡◌, ℕ, ◌+◌, ◌*◌, ◌<◌, Bool, true, false, List, [], ◌∷◌, Option, Some, None, length, slice_index, refl, sym, ap, subst, ◌∙◌, lit<, arith}
 use Rattle.std.specs.Prelude.{IfNone, codes}
+use Rattle.std.specs.Borrow.{Bor}
 use Rattle.std.specs.List.{list_any}
 use Rattle.std.specs.Str.{bytes_eq}
 use Rattle.std.proofs.lemmas.Bool.{false≢true}
@@ -11,17 +12,21 @@ use Rattle.std.specs.declared.net.socket_addr.SocketAddrV4.{SocketAddrV4}
 use Rattle.oathd_words.specs.Given.{GivesMember, is_flag}
 use Rattle.oathd_words.specs.InquiryWords.{AsksForInquiry, AsksMembers, AsksNode, GivesAddress}
 use Rattle.oathd_words.specs.NodesWords.{AsksForNodes}
-use Rattle.oathd_words.specs.StoreWords.{AsksForAct, AsksForAction, AsksForLog, AsksForStore, GivesMoment}
+use Rattle.oathd_words.specs.StoreWords.{AsksForAct, AsksForAction, AsksForLog, AsksForLook, AsksForStore, GivesMoment, GivesOwner}
 use Rattle.oathd_words.specs.Words.{AsksForNothing, AsksToCheck}
 use Rattle.oathd_words.specs.declared.inquiry_words.Inquiry.{Inquiry}
 use Rattle.oathd_words.specs.declared.inquiry_words.Inquiry.TheVariants as inquiries
 use Rattle.oathd_words.specs.declared.nodes_words.NodesWords.{NodesWords}
 use Rattle.oathd_words.specs.declared.store_words.Action.{Action}
-use Rattle.oathd_words.specs.declared.store_words.Action.TheVariants.{Init, Remake, Serve, Export, Audit, Migrate, Floors, Level, Gates, Unlock, Named}
+use Rattle.oathd_words.specs.declared.store_words.Action.TheVariants.{Init, Remake, Serve, Look as Looks, Migrate, Floors, Level, Named}
 use Rattle.oathd_words.specs.declared.store_words.LogWords.{LogWords}
 use Rattle.oathd_words.specs.declared.store_words.LogWords.TheVariants.{Nowhere, Output, Syslog}
+use Rattle.oathd_words.specs.declared.store_words.Look.{Look}
+use Rattle.oathd_words.specs.declared.store_words.Look.TheVariants.{Export, Audit, Gates, Unlock}
 use Rattle.oathd_words.specs.declared.store_words.NamedAct.{NamedAct}
 use Rattle.oathd_words.specs.declared.store_words.NamedAct.TheVariants as acts
+use Rattle.oathd_words.specs.declared.store_words.Owner.{Owner}
+use Rattle.oathd_words.specs.declared.store_words.Owner.TheVariants as owners
 use Rattle.oathd_words.specs.declared.words.Task.TheVariants.{Lines, Sim, Cluster, Store, Ask, Survey, Check, NewKey, NewCluster, Secret, SecretOfInput}
 
 -- a number that distinguishes the names of the commands
@@ -35,13 +40,16 @@ apart name a b p q below =
 
 -- ---- The names of the commands over a database
 
+-- the name of the command that looks at a store so
+abbrev look_name : Look → List ℕ
+look_name Export = codes "export"
+look_name Audit = codes "audit"
+look_name Gates = codes "gates"
+look_name (Unlock user) = codes "unlock"
+
 -- the name of the command that does this with a store by names
 abbrev act_name : NamedAct → List ℕ
 act_name acts.Begin = codes "init"
-act_name acts.Export = codes "export"
-act_name acts.Audit = codes "audit"
-act_name acts.Gates = codes "gates"
-act_name (acts.Unlock user) = codes "unlock"
 act_name acts.Roster = codes "roster"
 act_name acts.DropRetired = codes "roster"
 act_name (acts.Migrate members) = codes "migrate"
@@ -52,25 +60,24 @@ abbrev action_name : Action → List ℕ
 action_name (Init node import moment) = codes "init"
 action_name (Remake node import moment former) = codes "init"
 action_name (Serve cluster turns log clients reloads) = codes "serve"
-action_name Export = codes "export"
-action_name (Audit node) = codes "audit"
+action_name (Looks owner look) = look_name look
 action_name (Migrate node) = codes "migrate"
 action_name (Floors node count) = codes "floors"
 action_name (Level node floors) = codes "level"
-action_name (Gates node) = codes "gates"
-action_name (Unlock node user) = codes "unlock"
 action_name (Named node path act) = act_name act
 
 abbrev is_store_name : List ℕ → Bool
 is_store_name name = list_any (bytes_eq name) (codes "init" ∷ codes "serve" ∷ codes "export" ∷ codes "audit" ∷ codes "migrate" ∷ codes "floors"
     ∷ codes "level" ∷ codes "gates" ∷ codes "unlock" ∷ codes "roster" ∷ [])
 
+look_stored : (look : Look) → is_store_name (look_name look) ≡ true
+look_stored Export = refl
+look_stored Audit = refl
+look_stored Gates = refl
+look_stored (Unlock user) = refl
+
 act_stored : (act : NamedAct) → is_store_name (act_name act) ≡ true
 act_stored acts.Begin = refl
-act_stored acts.Export = refl
-act_stored acts.Audit = refl
-act_stored acts.Gates = refl
-act_stored (acts.Unlock user) = refl
 act_stored acts.Roster = refl
 act_stored acts.DropRetired = refl
 act_stored (acts.Migrate members) = refl
@@ -80,21 +87,20 @@ store_named : (action : Action) → is_store_name (action_name action) ≡ true
 store_named (Init node import moment) = refl
 store_named (Remake node import moment former) = refl
 store_named (Serve cluster turns log clients reloads) = refl
-store_named Export = refl
-store_named (Audit node) = refl
+store_named (Looks owner look) = look_stored look
 store_named (Migrate node) = refl
 store_named (Floors node count) = refl
 store_named (Level node floors) = refl
-store_named (Gates node) = refl
-store_named (Unlock node user) = refl
 store_named (Named node path act) = act_stored act
+
+look_so : (name : List ℕ) (found : Found) (look : Look) → AsksForLook name found look → name ≡ look_name look
+look_so name found Export asks = asks
+look_so name found Audit asks = asks
+look_so name found Gates asks = asks
+look_so name found (Unlock user) asks = asks.0
 
 act_so : (name : List ℕ) (found : Found) (act : NamedAct) → AsksForAct name found act → name ≡ act_name act
 act_so name found acts.Begin asks = asks.0
-act_so name found acts.Export asks = asks
-act_so name found acts.Audit asks = asks
-act_so name found acts.Gates asks = asks
-act_so name found (acts.Unlock user) asks = asks.0
 act_so name found acts.Roster asks = asks.0
 act_so name found acts.DropRetired asks = asks.0
 act_so name found (acts.Migrate members) asks = asks.0
@@ -105,13 +111,10 @@ pub named_so : (name : List ℕ) (found : Found) (action : Action) → AsksForAc
 named_so name found (Init node import moment) asks = asks.0
 named_so name found (Remake node import moment former) asks = asks.0
 named_so name found (Serve cluster turns log clients reloads) asks = asks.0
-named_so name found Export asks = asks.0
-named_so name found (Audit node) asks = asks.0
+named_so name found (Looks owner look) asks = look_so name found look asks.0
 named_so name found (Migrate node) asks = asks.0
 named_so name found (Floors node count) asks = asks.0
 named_so name found (Level node floors) asks = asks.0
-named_so name found (Gates node) asks = asks.0
-named_so name found (Unlock node user) asks = asks.0
 named_so name found (Named node path act) asks = act_so name found act asks.2
 
 -- a command with another name asks for none
@@ -259,14 +262,35 @@ pub no_init_node : (found : Found) → ((number : ℕ) → GivesMember found (co
 no_init_node found none (Init node import moment) asks = none node asks.3
 no_init_node found none (Remake node import moment former) asks = none node asks.3
 no_init_node found none (Serve cluster turns log clients reloads) asks = apart (codes "init") _ _ refl asks.0 (lit< tt)
-no_init_node found none Export asks = apart (codes "init") _ _ asks.0 refl (lit< tt)
-no_init_node found none (Audit node) asks = apart (codes "init") _ _ asks.0 refl (lit< tt)
+no_init_node found none (Looks owner Export) asks = apart (codes "init") _ _ asks.0 refl (lit< tt)
+no_init_node found none (Looks owner Audit) asks = apart (codes "init") _ _ asks.0 refl (lit< tt)
+no_init_node found none (Looks owner Gates) asks = apart (codes "init") _ _ asks.0 refl (lit< tt)
+no_init_node found none (Looks owner (Unlock user)) asks = apart (codes "init") _ _ refl asks.0.0 (lit< tt)
 no_init_node found none (Migrate node) asks = apart (codes "init") _ _ refl asks.0 (lit< tt)
 no_init_node found none (Floors node count) asks = apart (codes "init") _ _ asks.0 refl (lit< tt)
 no_init_node found none (Level node floors) asks = apart (codes "init") _ _ refl asks.0 (lit< tt)
-no_init_node found none (Gates node) asks = apart (codes "init") _ _ asks.0 refl (lit< tt)
-no_init_node found none (Unlock node user) asks = apart (codes "init") _ _ refl asks.0 (lit< tt)
 no_init_node found none (Named node path act) asks = none node asks.0
+
+-- without an owner nothing is asked for by `unlock`
+pub no_owner : (found : Found) (user : Bor (List ℕ)) → ((owner : Owner) → GivesOwner found (Unlock user) owner → ⊥) → (action : Action)
+    → AsksForAction (codes "unlock") found action → ⊥
+no_owner found user none (Init node import moment) asks = apart (codes "unlock") _ _ asks.0 refl (lit< tt)
+no_owner found user none (Remake node import moment former) asks = apart (codes "unlock") _ _ asks.0 refl (lit< tt)
+no_owner found user none (Serve cluster turns log clients reloads) asks = apart (codes "unlock") _ _ asks.0 refl (lit< tt)
+no_owner found user none (Looks owner Export) asks = apart (codes "unlock") _ _ asks.0 refl (lit< tt)
+no_owner found user none (Looks owner Audit) asks = apart (codes "unlock") _ _ asks.0 refl (lit< tt)
+no_owner found user none (Looks owner Gates) asks = apart (codes "unlock") _ _ asks.0 refl (lit< tt)
+no_owner found user none (Looks owners.Any (Unlock other)) asks = none owners.Any asks.1
+no_owner found user none (Looks (owners.Node node) (Unlock other)) asks = none (owners.Node node) asks.1
+no_owner found user none (Looks (owners.Member node path) (Unlock other)) asks = none (owners.Member node path) asks.1
+no_owner found user none (Migrate node) asks = apart (codes "unlock") _ _ asks.0 refl (lit< tt)
+no_owner found user none (Floors node count) asks = apart (codes "unlock") _ _ asks.0 refl (lit< tt)
+no_owner found user none (Level node floors) asks = apart (codes "unlock") _ _ asks.0 refl (lit< tt)
+no_owner found user none (Named node path acts.Begin) asks = apart (codes "unlock") _ _ asks.2.0 refl (lit< tt)
+no_owner found user none (Named node path acts.Roster) asks = apart (codes "unlock") _ _ asks.2.0 refl (lit< tt)
+no_owner found user none (Named node path acts.DropRetired) asks = apart (codes "unlock") _ _ asks.2.0 refl (lit< tt)
+no_owner found user none (Named node path (acts.Migrate members)) asks = apart (codes "unlock") _ _ asks.2.0 refl (lit< tt)
+no_owner found user none (Named node path (acts.Level floors)) asks = apart (codes "unlock") _ _ asks.2.0 refl (lit< tt)
 
 -- a claim that holds without a result gives what follows from it
 pub none_then : {A : Type 0} (result : Option A) (P Q : Type 0) → IfNone result P → (P → Q) → IfNone result Q

@@ -12,12 +12,14 @@ use Rattle.oathd_words.specs.declared.nodes_words.NodesWords.TheVariants as node
 use Rattle.oathd_words.specs.declared.store_words.Action.{Action}
 use Rattle.oathd_words.specs.declared.store_words.ClientWords.TheVariants.{Anybody, ThisMachine}
 use Rattle.oathd_words.specs.declared.store_words.Action.TheVariants as actions
-use Rattle.oathd_words.specs.declared.store_words.Action.TheVariants.{Init, Remake, Serve, Floors, Level, Unlock}
+use Rattle.oathd_words.specs.declared.store_words.Action.TheVariants.{Init, Remake, Serve, Look as Looks, Floors, Level}
 use Rattle.oathd_words.specs.declared.store_words.ClusterWords.{ClusterWords}
 use Rattle.oathd_words.specs.declared.store_words.ClusterWords.TheVariants as clusters
 use Rattle.oathd_words.specs.declared.store_words.ImportWords.TheVariants as imports
 use Rattle.oathd_words.specs.declared.store_words.LogWords.TheVariants.{Nowhere}
+use Rattle.oathd_words.specs.declared.store_words.Look.{Look}
 use Rattle.oathd_words.specs.declared.store_words.NamedAct.{NamedAct}
+use Rattle.oathd_words.specs.declared.store_words.Owner.TheVariants as owners
 use Rattle.oathd_words.specs.declared.words.Task.{Task}
 use Rattle.oathd_words.specs.declared.words.Task.TheVariants as tasks
 
@@ -95,9 +97,15 @@ floors_by_file = Floors 1 (counts.Named file)
 abbrev pub level_by : Vec (Bor (List ℕ)) → ℕ → Action
 level_by floors node = Level node floors
 
--- a clearing of failures
-abbrev pub unlock_of : ℕ → Action
-unlock_of node = Unlock node (word [])
+-- a look at the store of a node, of any, or of a member of the cluster file
+abbrev pub look_at : Look → ℕ → Action
+look_at look node = Looks (owners.Node node) look
+
+abbrev pub look_at_any : Look → Action
+look_at_any look = Looks owners.Any look
+
+abbrev pub look_at_member : Look → ℕ → Action
+look_at_member look node = Looks (owners.Member node file) look
 
 -- an action on a store by names, with the cluster file
 abbrev pub named_by : NamedAct → ℕ → Action

@@ -23,9 +23,13 @@ use Rattle.oathd_words.specs.declared.store_words.ImportWords.TheVariants as imp
 use Rattle.oathd_words.specs.declared.store_words.LogWords.{LogWords}
 use Rattle.oathd_words.specs.declared.store_words.LogWords.TheVariants.{Nowhere, Output, Syslog}
 use Rattle.oathd_words.specs.declared.store_words.Action.TheVariants as actions
-use Rattle.oathd_words.specs.declared.store_words.Action.TheVariants.{Init, Remake, Serve, Export, Audit, Migrate, Floors, Level, Gates, Unlock}
+use Rattle.oathd_words.specs.declared.store_words.Action.TheVariants.{Init, Remake, Serve, Look as Looks, Migrate, Floors, Level}
+use Rattle.oathd_words.specs.declared.store_words.Look.{Look}
+use Rattle.oathd_words.specs.declared.store_words.Look.TheVariants.{Export, Audit, Gates, Unlock}
 use Rattle.oathd_words.specs.declared.store_words.NamedAct.{NamedAct}
 use Rattle.oathd_words.specs.declared.store_words.NamedAct.TheVariants as acts
+use Rattle.oathd_words.specs.declared.store_words.Owner.{Owner}
+use Rattle.oathd_words.specs.declared.store_words.Owner.TheVariants as owners
 
 -- a given moment in its range, or None without the option
 abbrev pub GivesMoment : Found → Option ℕ → Type 0
@@ -127,16 +131,35 @@ abbrev pub GivesFormerCount : Found → Option ℕ → Type 0
 GivesFormerCount found None = first_value found (codes "members-were") ≡ None
 GivesFormerCount found (Some members) = GivesMember found (codes "members-were") members
 
+-- whether the words of a command have to say whose store it is, without a cluster file too
+abbrev pub is_of_node : Look → Bool
+is_of_node Export = false
+is_of_node Audit = true
+is_of_node Gates = true
+is_of_node (Unlock user) = true
+
+-- Whose store a command looks at: a member's if there is a cluster file, else that of the node with the given number.
+-- Without a cluster file `export` looks at the store of any node.
+abbrev pub GivesOwner : Found → Look → Owner → Type 0
+GivesOwner found look owners.Any = (is_of_node look ≡ false) × (first_value found (codes "cluster") ≡ None)
+GivesOwner found look (owners.Node node) =
+    (is_of_node look ≡ true) × GivesMember found (codes "node") node × (first_value found (codes "cluster") ≡ None)
+GivesOwner found look (owners.Member node path) =
+    GivesMember found (codes "node") node × (first_value found (codes "cluster") ≡ Some path.now)
+
+-- what the command `name` does with a store that it looks at
+abbrev pub AsksForLook : List ℕ → Found → Look → Type 0
+AsksForLook name found Export = name ≡ codes "export"
+AsksForLook name found Audit = name ≡ codes "audit"
+AsksForLook name found Gates = name ≡ codes "gates"
+AsksForLook name found (Unlock user) =
+    (name ≡ codes "unlock") × (first_value found (codes "USER") ≡ Some user.now)
+
 -- what the command `name` does to a store by names, with the values found beside its node and its cluster file
 abbrev pub AsksForAct : List ℕ → Found → NamedAct → Type 0
 AsksForAct name found acts.Begin =
     (name ≡ codes "init") × (begins found ≡ true) × (is_of_former found ≡ false)
     × (first_value found (codes "moment") ≡ None)
-AsksForAct name found acts.Export = name ≡ codes "export"
-AsksForAct name found acts.Audit = name ≡ codes "audit"
-AsksForAct name found acts.Gates = name ≡ codes "gates"
-AsksForAct name found (acts.Unlock user) =
-    (name ≡ codes "unlock") × (first_value found (codes "USER") ≡ Some user.now)
 AsksForAct name found acts.Roster = (name ≡ codes "roster") × (drops found ≡ false)
 AsksForAct name found acts.DropRetired = (name ≡ codes "roster") × (drops found ≡ true)
 AsksForAct name found (acts.Migrate members) = (name ≡ codes "migrate") × GivesFormerCount found members
@@ -156,9 +179,7 @@ AsksForAction name found (Serve cluster turns log clients reloads) =
     (name ≡ codes "serve") × AsksForCluster found cluster × (turns_given found ≡ Some turns)
     × AsksForLog found log × AsksForClients found clients
     × (reloads ≡ is_flag (first_value found (codes "reload")))
-AsksForAction name found Export = (name ≡ codes "export") × (first_value found (codes "cluster") ≡ None)
-AsksForAction name found (Audit node) =
-    (name ≡ codes "audit") × GivesMember found (codes "node") node × (first_value found (codes "cluster") ≡ None)
+AsksForAction name found (Looks owner look) = AsksForLook name found look × GivesOwner found look owner
 AsksForAction name found (Migrate node) =
     (name ≡ codes "migrate") × GivesMember found (codes "node") node × (first_value found (codes "cluster") ≡ None)
     × (first_value found (codes "members-were") ≡ None)
@@ -167,11 +188,6 @@ AsksForAction name found (Floors node count) =
 AsksForAction name found (Level node floors) =
     (name ≡ codes "level") × GivesMember found (codes "node") node × (first_value found (codes "cluster") ≡ None)
     × (values_given found (codes "floors") ≡ Some (map (λ path. path.now) floors.items))
-AsksForAction name found (Gates node) =
-    (name ≡ codes "gates") × GivesMember found (codes "node") node × (first_value found (codes "cluster") ≡ None)
-AsksForAction name found (Unlock node user) =
-    (name ≡ codes "unlock") × GivesMember found (codes "node") node × (first_value found (codes "cluster") ≡ None)
-    × (first_value found (codes "USER") ≡ Some user.now)
 AsksForAction name found (actions.Named node path act) =
     GivesMember found (codes "node") node × (first_value found (codes "cluster") ≡ Some path.now)
     × AsksForAct name found act
@@ -187,6 +203,12 @@ abbrev pub IsClusterInRange : ClusterWords → Type 0
 IsClusterInRange (Given settings place members key) = length members.items ≡ place.n
 IsClusterInRange (Named node path) = (1 ≤ node) × (node ≤ 9)
 
+-- the number of a node whose store is looked at is in its range
+abbrev pub IsOwnerInRange : Owner → Type 0
+IsOwnerInRange owners.Any = Unit {0}
+IsOwnerInRange (owners.Node node) = (1 ≤ node) × (node ≤ 9)
+IsOwnerInRange (owners.Member node path) = (1 ≤ node) × (node ≤ 9)
+
 -- the numbers of an action are in their ranges
 abbrev pub IsActionInRange : Action → Type 0
 IsActionInRange (Init node import None) = (1 ≤ node) × (node ≤ 9)
@@ -194,11 +216,8 @@ IsActionInRange (Init node import (Some moment)) = (1 ≤ node) × (node ≤ 9) 
 IsActionInRange (Remake node import None former) = (1 ≤ node) × (node ≤ 9)
 IsActionInRange (Remake node import (Some moment) former) = (1 ≤ node) × (node ≤ 9) × IsMoment moment
 IsActionInRange (Serve cluster turns log clients reloads) = IsClusterInRange cluster × (turns < 2 ^ 54)
-IsActionInRange Export = Unit {0}
-IsActionInRange (Audit node) = (1 ≤ node) × (node ≤ 9)
+IsActionInRange (Looks owner look) = IsOwnerInRange owner
 IsActionInRange (Migrate node) = (1 ≤ node) × (node ≤ 9)
 IsActionInRange (Floors node count) = (1 ≤ node) × (node ≤ 9)
 IsActionInRange (Level node floors) = (1 ≤ node) × (node ≤ 9)
-IsActionInRange (Gates node) = (1 ≤ node) × (node ≤ 9)
-IsActionInRange (Unlock node user) = (1 ≤ node) × (node ≤ 9)
 IsActionInRange (actions.Named node path act) = (1 ≤ node) × (node ≤ 9)

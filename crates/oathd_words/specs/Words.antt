@@ -11,11 +11,13 @@ use Rattle.oathd_words.specs.declared.former_words.CountWords.{CountWords}
 use Rattle.oathd_words.specs.declared.former_words.CountWords.TheVariants as counts
 use Rattle.oathd_words.specs.declared.store_words.Action.{Action}
 use Rattle.oathd_words.specs.declared.store_words.Action.TheVariants as actions
-use Rattle.oathd_words.specs.declared.store_words.Action.TheVariants.{Init, Remake, Serve, Export, Audit, Migrate, Floors, Level, Gates, Unlock}
+use Rattle.oathd_words.specs.declared.store_words.Action.TheVariants.{Init, Remake, Serve, Look as Looks, Migrate, Floors, Level}
 use Rattle.oathd_words.specs.declared.store_words.ClusterWords.{ClusterWords}
 use Rattle.oathd_words.specs.declared.store_words.ClusterWords.TheVariants.{Given, Named}
 use Rattle.oathd_words.specs.declared.store_words.ImportWords.{ImportWords}
 use Rattle.oathd_words.specs.declared.store_words.ImportWords.TheVariants as imports
+use Rattle.oathd_words.specs.declared.store_words.Owner.{Owner}
+use Rattle.oathd_words.specs.declared.store_words.Owner.TheVariants as owners
 use Rattle.oathd_words.specs.declared.words.Task.{Task}
 use Rattle.oathd_words.specs.declared.words.Task.TheVariants.{Lines, Sim, Cluster, Store, Ask, Survey, Check, NewKey, NewCluster, Secret, SecretOfInput}
 
@@ -77,18 +79,21 @@ abbrev pub count_path : CountWords → Option (List ℕ)
 count_path (counts.Given count) = None
 count_path (counts.Named path) = Some path.now
 
+-- the path of the cluster file, if a member's store is looked at
+abbrev pub owner_path : Owner → Option (List ℕ)
+owner_path owners.Any = None
+owner_path (owners.Node node) = None
+owner_path (owners.Member node path) = Some path.now
+
 -- the path of the cluster file that an action names, if it names one
 abbrev pub path_of_action : Action → Option (List ℕ)
 path_of_action (Init node import moment) = import_path import
 path_of_action (Remake node import moment former) = import_path import
 path_of_action (Serve cluster turns log clients reloads) = named_path cluster
-path_of_action Export = None
-path_of_action (Audit node) = None
+path_of_action (Looks owner look) = owner_path owner
 path_of_action (Migrate node) = None
 path_of_action (Floors node count) = count_path count
 path_of_action (Level node floors) = None
-path_of_action (Gates node) = None
-path_of_action (Unlock node user) = None
 path_of_action (actions.Named node path act) = Some path.now
 
 -- the path of the cluster file that a task names, if it names one

@@ -3,7 +3,7 @@ ghost use Rattle.std.specs.Borrow.{Bor};
 ghost use Rattle.std.specs.Global.{Vec};
 ghost use Rattle.std.specs.declared.net.socket_addr.SocketAddrV4.{SocketAddrV4};
 ghost use Rattle.udp_port.specs.Examples.{at_host, at_local};
-ghost use Rattle.oathd_words.specs.Broken.{cluster_at, file, floors_by_file, floors_of, given_cluster, given_nodes, init_at, level_by, lines_at, local_text, local_texts, named_by, named_cluster, named_nodes, remake_at, serve_for, sim_at, store_of, unlock_of, usual_init, usual_remake, usual_serve, word};
+ghost use Rattle.oathd_words.specs.Broken.{cluster_at, file, floors_by_file, floors_of, given_cluster, given_nodes, init_at, level_by, lines_at, local_text, local_texts, look_at, look_at_any, look_at_member, named_by, named_cluster, named_nodes, remake_at, serve_for, sim_at, store_of, usual_init, usual_remake, usual_serve, word};
 ghost use Rattle.clap.specs.Matches.{first_value};
 ghost use Rattle.clap.specs.declared.parser.matches.Found.{Found};
 ghost use Rattle.clap.specs.declared.parser.matches.MatchedArg.{MatchedArg};
@@ -11,14 +11,17 @@ ghost use Rattle.oathd_words.specs.FormerWords.{former_of, is_of_former, lost_sa
 ghost use Rattle.oathd_words.specs.Given.{GivesMember};
 ghost use Rattle.oathd_words.specs.Members.{AreMembers, SayAddresses, are_different};
 ghost use Rattle.oathd_words.specs.NodesWords.{AreNodesInRange};
-ghost use Rattle.oathd_words.specs.StoreWords.{AsksForAct, AsksForAction, AsksForClients, AsksForLog, IsActionInRange, IsClusterInRange, begins, has_log, takes_anybody};
+ghost use Rattle.oathd_words.specs.StoreWords.{AsksForAct, AsksForAction, AsksForClients, AsksForLog, AsksForLook, GivesOwner, IsActionInRange, IsClusterInRange, begins, has_log, is_of_node, takes_anybody};
 ghost use Rattle.oathd_words.specs.Words.{IsInRange, cluster_path_of, path_of_action};
 ghost use Rattle.oathd_words.specs.declared.former_words.FormerWords.{FormerWords as AnyFormer};
-ghost use Rattle.oathd_words.specs.declared.store_words.Action.TheVariants.{Audit, Export, Gates, Migrate};
+ghost use Rattle.oathd_words.specs.declared.store_words.Action.TheVariants.{Migrate};
 ghost use Rattle.oathd_words.specs.declared.store_words.ClientWords.TheVariants.{Anybody, Named, ThisMachine};
 ghost use Rattle.oathd_words.specs.declared.store_words.LogWords.TheVariants.{Nowhere, Output, Syslog};
+ghost use Rattle.oathd_words.specs.declared.store_words.Look.{Look as AnyLook};
+ghost use Rattle.oathd_words.specs.declared.store_words.Look.TheVariants.{Audit, Export, Gates, Unlock};
 ghost use Rattle.oathd_words.specs.declared.store_words.NamedAct.{NamedAct as AnyAct};
 ghost use Rattle.oathd_words.specs.declared.store_words.NamedAct.TheVariants as acts;
+ghost use Rattle.oathd_words.specs.declared.store_words.Owner.TheVariants as owners;
 ghost use Rattle.oathd_words.specs.declared.words.Task.TheVariants.{Check, NewCluster, NewKey, Secret, SecretOfInput};
 
 /// Counterexamples: the smallest list of members is accepted, and each part of the rule fails for a minimal one.
@@ -74,10 +77,13 @@ pub fn ranges_can_be_broken()
     ensures serve { IsActionInRange (serve_for 0 1) × IsActionInRange (serve_for 18014398509481983 9) }
     ensures serve_0 { IsActionInRange (serve_for 0 0) → ⊥ }
     ensures serve_for_2_to_54 { IsActionInRange (serve_for 18014398509481984 1) → ⊥ }
-    ensures export { IsActionInRange Export }
-    ensures audit { IsActionInRange (Audit 1) × IsActionInRange (Audit 9) }
-    ensures audit_0 { IsActionInRange (Audit 0) → ⊥ }
-    ensures audit_10 { IsActionInRange (Audit 10) → ⊥ }
+    ensures look { (look : AnyLook) → IsActionInRange (look_at_any look) × IsActionInRange (look_at look 1)
+        × IsActionInRange (look_at look 9) × IsActionInRange (look_at_member look 1)
+        × IsActionInRange (look_at_member look 9) }
+    ensures look_0 { (look : AnyLook) → IsActionInRange (look_at look 0) → ⊥ }
+    ensures look_10 { (look : AnyLook) → IsActionInRange (look_at look 10) → ⊥ }
+    ensures look_at_member_0 { (look : AnyLook) → IsActionInRange (look_at_member look 0) → ⊥ }
+    ensures look_at_member_10 { (look : AnyLook) → IsActionInRange (look_at_member look 10) → ⊥ }
     ensures migrate { IsActionInRange (Migrate 1) × IsActionInRange (Migrate 9) }
     ensures migrate_0 { IsActionInRange (Migrate 0) → ⊥ }
     ensures migrate_10 { IsActionInRange (Migrate 10) → ⊥ }
@@ -88,12 +94,6 @@ pub fn ranges_can_be_broken()
         × IsActionInRange (level_by floors 9) }
     ensures level_0 { (floors : Vec (Bor (List ℕ))) → IsActionInRange (level_by floors 0) → ⊥ }
     ensures level_10 { (floors : Vec (Bor (List ℕ))) → IsActionInRange (level_by floors 10) → ⊥ }
-    ensures gates { IsActionInRange (Gates 1) × IsActionInRange (Gates 9) }
-    ensures gates_0 { IsActionInRange (Gates 0) → ⊥ }
-    ensures gates_10 { IsActionInRange (Gates 10) → ⊥ }
-    ensures unlock { IsActionInRange (unlock_of 1) × IsActionInRange (unlock_of 9) }
-    ensures unlock_0 { IsActionInRange (unlock_of 0) → ⊥ }
-    ensures unlock_10 { IsActionInRange (unlock_of 10) → ⊥ }
     ensures named { (act : AnyAct) → IsActionInRange (named_by act 1) × IsActionInRange (named_by act 9) }
     ensures named_0 { (act : AnyAct) → IsActionInRange (named_by act 0) → ⊥ }
     ensures named_10 { (act : AnyAct) → IsActionInRange (named_by act 10) → ⊥ }
@@ -107,8 +107,8 @@ pub fn ranges_can_be_broken()
     ensures cluster { IsInRange (cluster_at 0 (given_nodes 1)) × IsInRange (cluster_at 1099511627775 named_nodes) }
     ensures cluster_of_none { IsInRange (cluster_at 0 (given_nodes 0)) → ⊥ }
     ensures cluster_at_2_to_40 { IsInRange (cluster_at 1099511627776 named_nodes) → ⊥ }
-    ensures store { IsInRange (store_of (Audit 1)) }
-    ensures store_of_node_0 { IsInRange (store_of (Audit 0)) → ⊥ }
+    ensures store { IsInRange (store_of (look_at Audit 1)) }
+    ensures store_of_node_0 { IsInRange (store_of (look_at Audit 0)) → ⊥ }
     ensures check { IsInRange (Check (word []) (word [])) }
     ensures secret { IsInRange (Secret (word [])) × IsInRange SecretOfInput }
 {}
@@ -116,14 +116,14 @@ pub fn ranges_can_be_broken()
 /// Worked cases. The cluster file that a task names.
 pub fn paths_are_worked()
     ensures named { map cluster_path_of (lines_at 0 named_nodes ∷ sim_at 0 named_nodes ∷ cluster_at 0 named_nodes
-        ∷ store_of (init_at None 1) ∷ store_of (serve_for 0 1) ∷ store_of floors_by_file ∷ Check (word []) file ∷ [])
-        ≡ replicate 7 (Some (codes "c")) }
+        ∷ store_of (init_at None 1) ∷ store_of (serve_for 0 1) ∷ store_of floors_by_file
+        ∷ store_of (look_at_member Audit 1) ∷ Check (word []) file ∷ []) ≡ replicate 8 (Some (codes "c")) }
     ensures remake { (former : AnyFormer) → path_of_action (remake_at None former 1) ≡ Some (codes "c") }
     ensures by_names { (act : AnyAct) → path_of_action (named_by act 1) ≡ Some (codes "c") }
     ensures none { map cluster_path_of (lines_at 0 (given_nodes 1) ∷ sim_at 0 (given_nodes 1)
-        ∷ cluster_at 0 (given_nodes 1) ∷ store_of usual_init ∷ store_of Export ∷ store_of (Audit 1)
-        ∷ store_of (Migrate 1) ∷ store_of (floors_of 1) ∷ store_of (Gates 1) ∷ store_of (unlock_of 1)
-        ∷ Secret file ∷ SecretOfInput ∷ []) ≡ replicate 12 None }
+        ∷ cluster_at 0 (given_nodes 1) ∷ store_of usual_init ∷ store_of (look_at_any Export)
+        ∷ store_of (look_at Audit 1) ∷ store_of (Migrate 1) ∷ store_of (floors_of 1) ∷ Secret file
+        ∷ SecretOfInput ∷ []) ≡ replicate 10 None }
     ensures given_remake { (former : AnyFormer) → path_of_action (usual_remake former) ≡ None }
     ensures given_serve { (members : Vec SocketAddrV4) → path_of_action (usual_serve members) ≡ None }
     ensures level { (floors : Vec (Bor (List ℕ))) → path_of_action (level_by floors 1) ≡ None }
@@ -199,6 +199,44 @@ pub fn log_words_are_worked()
     ensures has_log { map has_log (Nowhere ∷ Output ∷ Syslog (at_local 5) ∷ []) ≡ false ∷ true ∷ true ∷ [] }
 {}
 
+/// Worked cases. What the commands that look at a store do with it, and whose store it is.
+pub fn looks_are_worked()
+    ensures looks { (found : Found) → AsksForLook (codes "export") found Export
+        × AsksForLook (codes "audit") found Audit × AsksForLook (codes "gates") found Gates }
+    ensures looks_of_others { (found : Found) → (AsksForLook (codes "audit") found Export → ⊥)
+        × (AsksForLook (codes "gates") found Audit → ⊥) × (AsksForLook (codes "roster") found Gates → ⊥) }
+    ensures unlock { (found : Found) → first_value found (codes "USER") ≡ Some (codes "u")
+        → AsksForLook (codes "unlock") found (Unlock (word (codes "u")))
+        × (AsksForLook (codes "unlock") found (Unlock (word (codes "v"))) → ⊥)
+        × (AsksForLook (codes "gates") found (Unlock (word (codes "u"))) → ⊥) }
+
+    // a cluster file gives the names, and without one there are none
+    ensures of_node { map is_of_node (Export ∷ Audit ∷ Gates ∷ Unlock (word []) ∷ [])
+        ≡ false ∷ true ∷ true ∷ true ∷ [] }
+    ensures named { (found : Found) → GivesMember found (codes "node") 1
+        → first_value found (codes "cluster") ≡ Some (codes "c")
+        → AsksForAction (codes "audit") found (look_at_member Audit 1)
+        × (AsksForAction (codes "audit") found (look_at_member Audit 2) → ⊥)
+        × (AsksForAction (codes "audit") found (look_at_member Gates 1) → ⊥) }
+    ensures named_by_another { (found : Found) → first_value found (codes "cluster") ≡ Some (codes "c")
+        → GivesOwner found Export (owners.Member 1 (word (codes "d"))) → ⊥ }
+    ensures named_is_not_plain { (found : Found) → first_value found (codes "cluster") ≡ Some (codes "c")
+        → (AsksForAction (codes "export") found (look_at_any Export) → ⊥)
+        × (AsksForAction (codes "audit") found (look_at Audit 1) → ⊥)
+        × (AsksForAction (codes "gates") found (look_at Gates 1) → ⊥)
+        × (AsksForAction (codes "unlock") found (look_at (Unlock (word [])) 1) → ⊥) }
+    ensures plain { (found : Found) → GivesMember found (codes "node") 1
+        → first_value found (codes "cluster") ≡ None → AsksForAction (codes "export") found (look_at_any Export)
+        × AsksForAction (codes "audit") found (look_at Audit 1)
+        × AsksForAction (codes "gates") found (look_at Gates 1) }
+    ensures plain_of_another { (found : Found) → GivesMember found (codes "node") 1
+        → AsksForAction (codes "audit") found (look_at Audit 2) → ⊥ }
+    ensures plain_of_any { (found : Found) → AsksForAction (codes "audit") found (look_at_any Audit) → ⊥ }
+    ensures export_of_node { (found : Found) → AsksForAction (codes "export") found (look_at Export 1) → ⊥ }
+    ensures plain_is_not_named { (found : Found) (look : AnyLook) → first_value found (codes "cluster") ≡ None
+        → AsksForAction (codes "audit") found (look_at_member look 1) → ⊥ }
+{}
+
 /// Worked cases. What the commands do to a store by names, and what they ask for without a cluster file.
 pub fn named_words_are_worked()
     ensures begins { (found : Found) (value : MatchedArg) → found.entries.items ≡ (word (codes "begins"), value) ∷ []
@@ -216,11 +254,8 @@ pub fn named_words_are_worked()
     ensures begins_is_no_remake { (found : Found) (former : AnyFormer) → begins found ≡ true
         → AsksForAction (codes "init") found (usual_remake former) → ⊥ }
 
-    ensures acts { (found : Found) → AsksForAct (codes "export") found acts.Export
-        × AsksForAct (codes "audit") found acts.Audit × AsksForAct (codes "gates") found acts.Gates }
-    ensures acts_of_others { (found : Found) → (AsksForAct (codes "audit") found acts.Export → ⊥)
-        × (AsksForAct (codes "gates") found acts.Audit → ⊥) × (AsksForAct (codes "roster") found acts.Gates → ⊥)
-        × (AsksForAct (codes "export") found acts.Roster → ⊥) × (AsksForAct (codes "roster") found acts.Begin → ⊥)
+    ensures acts_of_others { (found : Found) → (AsksForAct (codes "export") found acts.Roster → ⊥)
+        × (AsksForAct (codes "roster") found acts.Begin → ⊥)
         × (AsksForAct (codes "level") found (acts.Migrate None) → ⊥) }
     ensures drops { (found : Found) (value : MatchedArg)
         → found.entries.items ≡ (word (codes "drop-retired"), value) ∷ []
@@ -242,28 +277,19 @@ pub fn named_words_are_worked()
         × (AsksForAct (codes "gates") found (acts.Level floors) → ⊥) }
     ensures level_by_others { (found : Found) (floors : Vec (Bor (List ℕ))) → values_given found (codes "floors") ≡ None
         → AsksForAct (codes "level") found (acts.Level floors) → ⊥ }
-    ensures unlock { (found : Found) → first_value found (codes "USER") ≡ Some (codes "u")
-        → AsksForAct (codes "unlock") found (acts.Unlock (word (codes "u")))
-        × (AsksForAct (codes "unlock") found (acts.Unlock (word (codes "v"))) → ⊥)
-        × (AsksForAct (codes "gates") found (acts.Unlock (word (codes "u"))) → ⊥) }
 
     // a cluster file gives the names, and without one there are none
     ensures named { (found : Found) → GivesMember found (codes "node") 1
-        → first_value found (codes "cluster") ≡ Some (codes "c")
-        → AsksForAction (codes "audit") found (named_by acts.Audit 1)
-        × (AsksForAction (codes "audit") found (named_by acts.Audit 2) → ⊥)
-        × (AsksForAction (codes "audit") found (named_by acts.Gates 1) → ⊥) }
+        → first_value found (codes "cluster") ≡ Some (codes "c") → begins found ≡ true
+        → is_of_former found ≡ false → first_value found (codes "moment") ≡ None
+        → AsksForAction (codes "init") found (named_by acts.Begin 1)
+        × (AsksForAction (codes "init") found (named_by acts.Begin 2) → ⊥)
+        × (AsksForAction (codes "init") found (named_by acts.Roster 1) → ⊥) }
     ensures named_is_not_plain { (found : Found) → first_value found (codes "cluster") ≡ Some (codes "c")
-        → (AsksForAction (codes "export") found Export → ⊥) × (AsksForAction (codes "audit") found (Audit 1) → ⊥)
-        × (AsksForAction (codes "gates") found (Gates 1) → ⊥)
-        × (AsksForAction (codes "unlock") found (unlock_of 1) → ⊥)
-        × (AsksForAction (codes "migrate") found (Migrate 1) → ⊥) }
+        → AsksForAction (codes "migrate") found (Migrate 1) → ⊥ }
     ensures named_level_is_not_plain { (found : Found) (floors : Vec (Bor (List ℕ)))
         → first_value found (codes "cluster") ≡ Some (codes "c")
         → AsksForAction (codes "level") found (level_by floors 1) → ⊥ }
-    ensures plain { (found : Found) → GivesMember found (codes "node") 1
-        → first_value found (codes "cluster") ≡ None → AsksForAction (codes "export") found Export
-        × AsksForAction (codes "audit") found (Audit 1) × AsksForAction (codes "gates") found (Gates 1) }
     ensures plain_is_not_named { (found : Found) (act : AnyAct) → first_value found (codes "cluster") ≡ None
-        → AsksForAction (codes "audit") found (named_by act 1) → ⊥ }
+        → AsksForAction (codes "roster") found (named_by act 1) → ⊥ }
 {}

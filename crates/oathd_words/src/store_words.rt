@@ -11,12 +11,13 @@ ghost use Rattle.otp_core.specs.Limits.{Limits};
 ghost use Rattle.vote_core.specs.NodeSet.{PlaceRecord};
 ghost use Rattle.oathd_words.specs.FormerWords.{former_given, former_value, is_of_former as spec_is_of_former};
 ghost use Rattle.oathd_words.specs.Given.{is_flag};
-ghost use Rattle.oathd_words.specs.StoreWords.{AsksForAction, AsksForClients, AsksForCluster, AsksForImport, AsksForLog, GivesFormerCount, GivesImport, GivesMoment, GivesPlace, begins, few_turns, has_log, takes_anybody, turns_given};
-ghost use Rattle.oathd_words.specs.Words.{path_of_action};
+ghost use Rattle.oathd_words.specs.StoreWords.{AsksForAction, AsksForClients, AsksForCluster, AsksForImport, AsksForLog, GivesFormerCount, GivesImport, GivesMoment, GivesOwner, GivesPlace, begins, few_turns, has_log, is_of_node, takes_anybody, turns_given};
+ghost use Rattle.oathd_words.specs.Words.{owner_path, path_of_action};
 ghost use Rattle.oathd_words.specs.declared.store_words.Action.{Action as AnyAction};
 ghost use Rattle.oathd_words.specs.declared.store_words.ClusterWords.{ClusterWords as AnyCluster};
 ghost use Rattle.oathd_words.specs.declared.store_words.ImportWords.{ImportWords as AnyImport};
 ghost use Rattle.oathd_words.specs.declared.store_words.LogWords.{LogWords as AnyLog};
+ghost use Rattle.oathd_words.specs.declared.store_words.Owner.{Owner as AnyOwner};
 
 use crate::former_words::{
     CountWords, FormerWords, count_words, former_words, is_of_former, paths_of,
@@ -95,11 +96,45 @@ pub enum ImportWords<'a> {
     Named(&'a str),
 }
 
-/// What is done to the store of a member whose cluster file gives names.
-#[derive(Drop)]
-pub enum NamedAct<'a> {
-    /// Creates it, for a cluster that never served.
-    Begin,
+/// The node whose store a command looks at.
+#[derive(Clone, Copy, Drop)]
+pub enum Owner<'a> {
+    /// The node that the tables of the store name.
+    Any,
+    /// The node with this number: 1 to 9.
+    Node(u8),
+    /// A member of a cluster whose cluster file gives names.
+    Member {
+        /// The number of the node: 1 to 9.
+        node: u8,
+        /// The path of the cluster file.
+        path: &'a str,
+    },
+}
+
+impl<'a> Owner<'a> {
+    /// Returns the path of the cluster file, or None.
+    fn path(&self) -> Option<&'a str>
+        ensures { option_map (λ path. path.now) result ≡ owner_path self.now }
+    {
+        match self {
+            Owner::Any | Owner::Node(_) => None,
+            Owner::Member { path, .. } => Some(*path),
+        }
+    }
+
+    /// Returns the number of the node, or None if the words have none.
+    pub fn node(&self) -> Option<u8> {
+        match self {
+            Owner::Any => None,
+            Owner::Node(node) | Owner::Member { node, .. } => Some(*node),
+        }
+    }
+}
+
+/// What a command does with a store that it looks at.
+#[derive(Clone, Copy, Drop)]
+pub enum Look<'a> {
     /// Prints a users file with its content.
     Export,
     /// Prints its passes.
@@ -111,6 +146,25 @@ pub enum NamedAct<'a> {
         /// The name of the user.
         user: &'a str,
     },
+}
+
+impl Look<'_> {
+    /// Returns whether the words have to say whose store it is, without a cluster file too.
+    fn is_of_node(self) -> bool
+        ensures { result ≡ is_of_node self.entry }
+    {
+        match self {
+            Look::Export => false,
+            Look::Audit | Look::Gates | Look::Unlock { .. } => true,
+        }
+    }
+}
+
+/// What is done to the store of a member whose cluster file gives names.
+#[derive(Drop)]
+pub enum NamedAct<'a> {
+    /// Creates it, for a cluster that never served.
+    Begin,
     /// Prints its rows.
     Roster,
     /// Drops the rows of retired tokens whose floors other rows keep.
@@ -160,12 +214,10 @@ pub enum Action<'a> {
         /// Whether the node takes its users file again when it changes.
         reloads: bool,
     },
-    /// Prints a users file with the store's content.
-    Export,
-    /// Prints its passes.
-    Audit {
-        /// The number of the node: 1 to 9.
-        node: u8,
+    /// Looks at it, by the places of its tokens, or by their names if its owner has a cluster file.
+    Look {
+        owner: Owner<'a>,
+        look: Look<'a>,
     },
     /// Upgrades it to the current format.
     Migrate {
@@ -184,18 +236,6 @@ pub enum Action<'a> {
         node: u8,
         /// The paths of the floors files.
         floors: Vec<&'a str>,
-    },
-    /// Prints its gates that have failures.
-    Gates {
-        /// The number of the node: 1 to 9.
-        node: u8,
-    },
-    /// Clears the failures of a user.
-    Unlock {
-        /// The number of the node: 1 to 9.
-        node: u8,
-        /// The name of the user.
-        user: &'a str,
     },
     /// An action on the store of a member whose cluster file gives names.
     Named {
@@ -229,6 +269,7 @@ impl<'a> Action<'a> {
                 cluster: ClusterWords::Named { path, .. },
                 ..
             } => Some(*path),
+            Action::Look { owner, .. } => owner.path(),
             Action::Named { path, .. } => Some(*path),
             _ => None,
         }
@@ -513,18 +554,33 @@ fn serve_action<'a>(
     }))
 }
 
+/// Returns whose store a command looks at, or `None` if the number of the node is missing or wrong.
+///
+/// Without a cluster file, `export` looks at the store of any node.
+fn owner_of<'a>(matches: &ArgMatches<'a>, look: Look<'_>) -> Option<Owner<'a>>
+    ensures some { IfSome result (GivesOwner (found_of matches.now) look.entry) }
+    ensures none { IfNone result ((owner : AnyOwner) → GivesOwner (found_of matches.now) look.entry owner → ⊥) }
+{
+    if let Some(path) = matches.get_str("cluster") {
+        let node = member_number(matches, "node")?;
+        return Some(Owner::Member { node, path });
+    }
+    if look.is_of_node() {
+        Some(Owner::Node(member_number(matches, "node")?))
+    } else {
+        Some(Owner::Any)
+    }
+}
+
 /// Returns the action of `export`, or `None` if a value is missing or wrong.
 fn export_action<'a>(matches: &ArgMatches<'a>) -> Option<Action<'a>>
     ensures some { IfSome result (AsksForAction (codes "export") (found_of matches.now)) }
     ensures none { IfNone result ((action : AnyAction)
         → AsksForAction (codes "export") (found_of matches.now) action → ⊥) }
 {
-    let Some(path) = matches.get_str("cluster") else {
-        return Some(Action::Export);
-    };
-    let node = member_number(matches, "node")?;
-    let act = NamedAct::Export;
-    Some(Action::Named { node, path, act })
+    let owner = owner_of(matches, Look::Export)?;
+    let look = Look::Export;
+    Some(Action::Look { owner, look })
 }
 
 /// Returns the action of `audit`, or `None` if a value is missing or wrong.
@@ -533,14 +589,9 @@ fn audit_action<'a>(matches: &ArgMatches<'a>) -> Option<Action<'a>>
     ensures none { IfNone result ((action : AnyAction)
         → AsksForAction (codes "audit") (found_of matches.now) action → ⊥) }
 {
-    let node = member_number(matches, "node")?;
-    match matches.get_str("cluster") {
-        Some(path) => {
-            let act = NamedAct::Audit;
-            Some(Action::Named { node, path, act })
-        }
-        None => Some(Action::Audit { node }),
-    }
+    let owner = owner_of(matches, Look::Audit)?;
+    let look = Look::Audit;
+    Some(Action::Look { owner, look })
 }
 
 /// Returns the value of `--members-were`, `Some(None)` without it, or `None` if it is not a number from 1 to 9.
@@ -626,14 +677,9 @@ fn gates_action<'a>(matches: &ArgMatches<'a>) -> Option<Action<'a>>
     ensures none { IfNone result ((action : AnyAction)
         → AsksForAction (codes "gates") (found_of matches.now) action → ⊥) }
 {
-    let node = member_number(matches, "node")?;
-    match matches.get_str("cluster") {
-        Some(path) => {
-            let act = NamedAct::Gates;
-            Some(Action::Named { node, path, act })
-        }
-        None => Some(Action::Gates { node }),
-    }
+    let owner = owner_of(matches, Look::Gates)?;
+    let look = Look::Gates;
+    Some(Action::Look { owner, look })
 }
 
 /// Returns the action of `unlock`, or `None` if a value is missing or wrong.
@@ -642,15 +688,10 @@ fn unlock_action<'a>(matches: &ArgMatches<'a>) -> Option<Action<'a>>
     ensures none { IfNone result ((action : AnyAction)
         → AsksForAction (codes "unlock") (found_of matches.now) action → ⊥) }
 {
-    let node = member_number(matches, "node")?;
     let user = matches.get_str("USER")?;
-    match matches.get_str("cluster") {
-        Some(path) => {
-            let act = NamedAct::Unlock { user };
-            Some(Action::Named { node, path, act })
-        }
-        None => Some(Action::Unlock { node, user }),
-    }
+    let look = Look::Unlock { user };
+    let owner = owner_of(matches, look)?;
+    Some(Action::Look { owner, look })
 }
 
 /// Returns the action of `roster`, or `None` if a value is missing or wrong.

@@ -32,7 +32,7 @@ use Rattle.udp_port.specs.Examples.{at_local, heard_from}
 use Rattle.bundle_port.specs.Runs.{Waits}
 use Rattle.floor_port.specs.Runs.{Came}
 use Rattle.node_serving.specs.Stretches.{ServesIn, operator_acts, unasked}
-use Rattle.node_reports.specs.Desk.{DeskAnswers}
+use Rattle.node_reports.specs.Responder.{ResponderAnswers}
 use Rattle.oathd_database.specs.Broken.{shows_any}
 use Rattle.oathd_database.specs.declared.fault.Fault.TheVariants.{NoClock}
 use Rattle.oathd_database.proofs.BrokenLemmas.{clean_is, stays}
@@ -158,7 +158,7 @@ serves = record {
   same = record { book = refl; limits = refl; key = refl; place = refl };
 }
 
-serves_in : ServesIn (view_of lone_disk) (operator_acts (view_of lone_disk)) lone_node lone_node (Some []) (Some lone_events) None None 1 (DeskAnswers unasked) (Err Clock)
+serves_in : ServesIn (view_of lone_disk) (operator_acts (view_of lone_disk)) lone_node lone_node (Some []) (Some lone_events) None None 1 (ResponderAnswers unasked) (Err Clock)
 serves_in = record {
   stretches = [];
   from = lone_node;
@@ -171,7 +171,7 @@ serves_in = record {
   counts = refl;
 }
 
-over : IsServedOver (view_of lone_disk) lone_serving [] [] (lone_store 0) (DeskAnswers unasked) (Err NoClock)
+over : IsServedOver (view_of lone_disk) lone_serving [] [] (lone_store 0) (ResponderAnswers unasked) (Err NoClock)
 unfolding ipv4_bits
 over = record {
   first = lone_node;

@@ -2,21 +2,21 @@ use Rattle.std.proofs.Common.{ap, refl}
 use Rattle.std.specs.Global.{Vec}
 use Rattle.std.specs.declared.net.socket_addr.SocketAddrV4.{SocketAddrV4}
 use Rattle.named_serving.specs.Served.{packer_of, translator_of}
-use Rattle.named_serving.proofs.ServedLemmas.{ends_desk, served_over, then_err, then_ok}
+use Rattle.named_serving.proofs.ServedLemmas.{ends_with_responder, served_over, then_err, then_ok}
 use Rattle.named_serving.proofs.serve.serve_opened.Goals as goal
 
 pub returns-clause-served : goal.returns-clause-served
 returns-clause-served g c =
     let naming = c.args.naming.now in
     let members = ap (λ (all : Vec SocketAddrV4). all.items) c.new-port.ensures.members in
-    then_ok c.serve_desk.result _ _
+    then_ok c.serve_responder.result _ _
     (λ served. served_over c.args.serving.lines c.in_ok-front.front (translator_of naming) (packer_of naming) members c.in_ok-front.ensures.front c.me-2.ensures.value refl refl)
-    c.serve_desk.ensures.served
+    c.serve_responder.ensures.served
 
 pub returns-clause-fault : goal.returns-clause-fault
 returns-clause-fault g c =
     let naming = c.args.naming.now in
     let members = ap (λ (all : Vec SocketAddrV4). all.items) c.new-port.ensures.members in
-    then_err c.serve_desk.result _ _
-    (λ fault. ends_desk fault (served_over c.args.serving.lines c.in_ok-front.front (translator_of naming) (packer_of naming) members c.in_ok-front.ensures.front c.me-2.ensures.value refl refl))
-    c.serve_desk.ensures.fault
+    then_err c.serve_responder.result _ _
+    (λ fault. ends_with_responder fault (served_over c.args.serving.lines c.in_ok-front.front (translator_of naming) (packer_of naming) members c.in_ok-front.ensures.front c.me-2.ensures.value refl refl))
+    c.serve_responder.ensures.fault

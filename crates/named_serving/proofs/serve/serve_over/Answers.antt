@@ -1,6 +1,6 @@
 use Rattle.std.proofs.Common.{◌∙◌, map}
 use Rattle.std.specs.Prelude.{Ok}
-use Rattle.node_reports.specs.Desk.{DeskAnswers}
+use Rattle.node_reports.specs.Responder.{ResponderAnswers}
 use Rattle.named_serving.proofs.ServedLemmas.{ends_by, served_by, then_err, then_ok}
 use Rattle.oathd_roster.proofs.UsersLemmas.{name_in}
 use Rattle.named_serving.proofs.serve.serve_over.Goals as goal
@@ -14,7 +14,7 @@ returns-clause-served g c =
     then_ok c.serve_opened.result _ _
     (λ served. served_by held serving named.users.book (map name_in named.entries.items) c.args.store c.in_ok-naming.naming c.in_ok-naming.ensures.naming
     c.in_ok-node.node c.serve_opened.new.node node.opened node.book node.limits (node.key ∙ c.bare-bare.ensures) node.place
-    (DeskAnswers (g.U.Stop.answers served.1)) (Ok served.0)) c.serve_opened.ensures.served
+    (ResponderAnswers (g.U.Stop.answers served.1)) (Ok served.0)) c.serve_opened.ensures.served
 
 pub returns-clause-fault : goal.returns-clause-fault
 returns-clause-fault g c =

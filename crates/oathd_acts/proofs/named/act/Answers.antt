@@ -5,18 +5,6 @@ pub returns-in-Begin : goal.returns-in-Begin
 returns-in-Begin g c =
     act_done _ _ c.args.node c.args.act _ c.args.site.now.cluster.now _ _ _ _ _ c.begin.result c.in-Begin.is c.in_ok-settings.ensures c.begin.ensures
 
-pub returns-in-Export : goal.returns-in-Export
-returns-in-Export g c =
-    act_done _ _ c.args.node c.args.act _ c.args.site.now.cluster.now _ _ _ _ _ c.export_named.result c.in-Export.is c.in_ok-settings.ensures c.export_named.ensures
-
-pub returns-in-Audit : goal.returns-in-Audit
-returns-in-Audit g c =
-    act_done _ _ c.args.node c.args.act _ c.args.site.now.cluster.now _ _ _ _ _ c.audit_named.result c.in-Audit.is c.in_ok-settings.ensures c.audit_named.ensures
-
-pub returns-in-Gates : goal.returns-in-Gates
-returns-in-Gates g c =
-    act_done _ _ c.args.node c.args.act _ c.args.site.now.cluster.now _ _ _ _ _ c.gates_named.result c.in-Gates.is c.in_ok-settings.ensures c.gates_named.ensures
-
 pub returns-in-Roster : goal.returns-in-Roster
 returns-in-Roster g c =
     act_done _ _ c.args.node c.args.act _ c.args.site.now.cluster.now _ _ _ _ _ c.roster_named.result c.in-Roster.is c.in_ok-settings.ensures c.roster_named.ensures
@@ -24,10 +12,6 @@ returns-in-Roster g c =
 pub returns-in-DropRetired : goal.returns-in-DropRetired
 returns-in-DropRetired g c =
     act_done _ _ c.args.node c.args.act _ c.args.site.now.cluster.now _ _ _ _ _ c.drop_named.result c.in-DropRetired.is c.in_ok-settings.ensures c.drop_named.ensures
-
-pub returns-in-Unlock : goal.returns-in-Unlock
-returns-in-Unlock g c =
-    act_done _ _ c.args.node c.args.act _ c.args.site.now.cluster.now _ _ _ _ _ c.unlock_named.result c.in-Unlock.is c.in_ok-settings.ensures (c.unlock_named.ensures (g.O.Write.contents c.args.held.now) (g.O.Write.contents c.args.held.now))
 
 pub returns-in-Migrate : goal.returns-in-Migrate
 returns-in-Migrate g c =

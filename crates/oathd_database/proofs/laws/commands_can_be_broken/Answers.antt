@@ -1,25 +1,17 @@
 -- Each promise is asked about the one that breaks it.
-use Rattle.std.proofs.Common.{◌≡◌, ℕ, zero, suc, false, List, [], ◌∷◌, length, true, refl, ap, subst, ◌∙◌, arith}
+use Rattle.std.proofs.Common.{◌≡◌, [], ◌∷◌, length, true, refl, ap, ◌∙◌, arith}
 use Rattle.std.specs.Prelude.{codes}
 use Rattle.sqlite.specs.Effect.{Database}
-use Rattle.sqlite.specs.Tree.{Trees}
-use Rattle.otp_core.specs.Limits.{default_limits}
-use Rattle.token_file.specs.Credential.{Credential}
 use Rattle.token_file.specs.Examples.{time_token}
 use Rattle.token_file.specs.declared.token.Kind.TheVariants.{Time30}
-use Rattle.floor_store.specs.Content.{Content}
-use Rattle.floor_store.specs.Records.{PassRecord}
 use Rattle.floor_sql.specs.Broken.{small_content, tables_at}
-use Rattle.floor_sql.specs.Schema.{floor_schema, undrifted_schema, version_of}
-use Rattle.floor_sql.specs.Stored.{Holds}
-use Rattle.floor_sql.specs.declared.schema.Format.{Format}
+use Rattle.floor_sql.specs.Schema.{floor_schema, undrifted_schema}
 use Rattle.floor_sql.specs.declared.schema.Format.TheVariants.{Numbered}
-use Rattle.floor_sql.proofs.BrokenLemmas.{none_holds, own_row_is}
+use Rattle.floor_sql.proofs.BrokenLemmas.{none_holds}
 use Rattle.floors_file.specs.Writing.{head_text, floors_text}
-use Rattle.oathd_database.specs.Broken.{conn_of, old_and_new, new_store, one_book, small_conn, two_tables}
+use Rattle.oathd_database.specs.Broken.{conn_of, old_and_new, new_store, one_book, small_conn}
 use Rattle.oathd_database.specs.Floors.{told_floors}
-use Rattle.oathd_database.specs.Text.{export_text}
-use Rattle.oathd_database.proofs.BrokenLemmas.{clean_is, fallen_is, fallen_made, fallen_migrated, fallen_opened, imported_is, none_held, nothing_written, one_token, opened_over, stays}
+use Rattle.oathd_database.proofs.BrokenLemmas.{clean_is, fallen_is, fallen_made, fallen_migrated, fallen_opened, none_held, nothing_written, one_token, opened_over, stays}
 use Rattle.oathd_database.proofs.laws.commands_can_be_broken.Goals as goal
 
 pub returns-clause-made : goal.returns-clause-made
@@ -104,79 +96,6 @@ returns-clause-audit_committed c h = let e = nothing_written (λ disk. 4) (new_s
 
 pub returns-clause-audit_written : goal.returns-clause-audit_written
 returns-clause-audit_written c h = let e = nothing_written (λ disk. 4) (new_store 4 []) (codes "x") h in absurd cc
-
-pub returns-clause-exported : goal.returns-clause-exported
-returns-clause-exported c users is = record {
-  import = record { book = one_book; floors = 0 ∷ []; imported = is };
-  store = new_store 4 [];
-  opened = record { conn = small_conn; found = λ clean. tt; node = 1; is_given = tt; opened = fallen_opened 1 1 (new_store 4 []).mirror };
-  written = λ clean. absurd (fallen_is small_conn clean);
-}
-
-pub returns-clause-exported_opened : goal.returns-clause-exported_opened
-returns-clause-exported_opened c users of_one h =
-    let is : length h.import.book ≡ 0 = (opened_over (λ disk. 4) h.opened.conn h.opened.node (length h.import.book) h.store h.opened.opened).1 in
-    let one : length h.import.book ≡ 1 = one_token 0 11 users of_one h.import in
-    omega (arith, is, one)
-
-pub returns-clause-exported_written : goal.returns-clause-exported_written
-returns-clause-exported_written c h =
-    let e : codes "x" ≡ export_text h.import.book h.store.mirror.rows = h.written (clean_is (λ disk. tables_at 4 []) h.store.conn) in
-    let none : codes "x" ≡ [] = e ∙ ap (λ (book : List Credential). export_text book h.store.mirror.rows) (imported_is default_limits 0 11 [] [] [] refl h.import).0 in
-    absurd cc
-
-pub returns-clause-audited : goal.returns-clause-audited
-returns-clause-audited c users is = record {
-  import = record { book = one_book; floors = 0 ∷ []; imported = is };
-  found = new_store 4 [];
-  opened = record { conn = small_conn; found = λ clean. tt; node = 1; is_given = refl; opened = fallen_opened 1 1 (new_store 4 []).mirror };
-  store = new_store 4 [];
-  kept = record {
-    content = (refl, refl, refl);
-    tables = λ clean. absurd (fallen_is small_conn clean);
-    survives = stays false (λ disk. tables_at 0 []) small_conn (λ left. ⊥);
-  };
-  written = λ clean. absurd (fallen_is small_conn clean);
-}
-
-pub returns-clause-audited_opened : goal.returns-clause-audited_opened
-returns-clause-audited_opened c h =
-    let is : h.opened.node ≡ 1 = (opened_over (λ disk. 4) h.opened.conn h.opened.node (length h.import.book) h.found h.opened.opened).0 in
-    let given : h.opened.node ≡ 2 = h.opened.is_given in
-    omega (arith, is, given)
-
-pub returns-clause-audited_tokens : goal.returns-clause-audited_tokens
-returns-clause-audited_tokens c users of_one h =
-    let is : length h.import.book ≡ 0 = (opened_over (λ disk. 4) h.opened.conn h.opened.node (length h.import.book) h.found h.opened.opened).1 in
-    let one : length h.import.book ≡ 1 = one_token 0 11 users of_one h.import in
-    omega (arith, is, one)
-
--- of the two disks the one of node 1 has no pass
-first_disk : {format : Format} (disk : ℕ) (content : Content) (passes : List PassRecord) (h : Holds format (two_tables disk) content passes) → h.node ≡ 1
-    → two_tables disk ≡ tables_at 4 []
-first_disk {format} zero content passes h is = refl
-first_disk {format} (suc disk) content passes h is =
-    let other : 2 ≡ h.node = (own_row_is 2 2 0 4 (version_of format) h.node (length content.rows) content.boot h.self).1 in
-    absurd (omega (arith, other, is))
-
-pub returns-clause-audited_kept : goal.returns-clause-audited_kept
-returns-clause-audited_kept c h =
-    let found = h.opened.opened.content (clean_is two_tables h.found.conn) in
-    let first : two_tables h.opened.conn.store ≡ tables_at 4 [] =
-    first_disk h.opened.conn.store _ found.passes found.holds (found.of_node ∙ h.opened.is_given) in
-    let read = (h.opened.opened.kept.read (clean_is two_tables h.found.conn)).committed in
-    let same = (h.kept.tables (clean_is two_tables h.store.conn)).committed refl in
-    let trees : two_tables h.store.conn.store ≡ tables_at 4 [] = ap (λ (db : Database). db.trees) (same ∙ read) ∙ first in
-    let writes = h.written (clean_is two_tables h.store.conn) in
-    let holds = subst (λ (t : Trees). Holds writes.committed.format t writes.committed.base writes.passes) trees writes.committed.holds in
-    let none = (none_held 4 _ writes.passes holds).3 in
-    let e = nothing_written (λ disk. 4) (record h.store { mirror = writes.committed.base; staged = [] }) _
-    (record { passes = writes.passes; committed = record { base = writes.committed.base; replayed = refl; format = writes.committed.format; holds = holds }; written = writes.written }) in
-    absurd cc
-
-pub returns-clause-audited_written : goal.returns-clause-audited_written
-returns-clause-audited_written c h =
-    let e = nothing_written (λ disk. 4) h.store (codes "x") (h.written (clean_is (λ disk. tables_at 4 []) h.store.conn)) in absurd cc
 
 pub returns-clause-told : goal.returns-clause-told
 returns-clause-told c users is = record {

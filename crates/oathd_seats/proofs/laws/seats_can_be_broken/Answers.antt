@@ -20,33 +20,35 @@ use Rattle.oathd_seats.proofs.laws.seats_can_be_broken.Goals as goal
 pub returns-clause-exported : goal.returns-clause-exported
 returns-clause-exported c = record {
   import = record { book = []; floors = []; imported = refl };
-  roster = [];
   store = nothing_seen;
-  seen = record {
-    conn = small_conn;
-    found = λ clean. tt;
-    looked = record {
-      tables = λ clean. absurd (fallen_is small_conn clean);
-      kept = (fallen_opened 1 0 nothing_seen.inner.mirror).kept;
-      seats = record {
-        distinct = none_distinct;
-        none_new = refl;
-        seated = record {
-          named = refl;
-          apart = record { within = λ i seat at. absurd cc; apart = λ i j seat at_i at_j. absurd cc };
+  seen = (
+    [],
+    record {
+      conn = small_conn;
+      found = λ clean. tt;
+      looked = record {
+        tables = λ clean. absurd (fallen_is small_conn clean);
+        kept = (fallen_opened 1 0 nothing_seen.inner.mirror).kept;
+        seats = record {
+          distinct = none_distinct;
+          none_new = refl;
+          seated = record {
+            named = refl;
+            apart = record { within = λ i seat at. absurd cc; apart = λ i j seat at_i at_j. absurd cc };
+          };
+          each = refl;
         };
-        each = refl;
+        rows = refl;
+        sound = fallen_sound nothing_seen.inner.mirror;
+        works = refl;
       };
-      rows = refl;
-      sound = fallen_sound nothing_seen.inner.mirror;
-      works = refl;
-    };
-  };
+    },
+  );
   written = λ clean. absurd (fallen_is small_conn clean);
 }
 
 pub returns-clause-exported_found : goal.returns-clause-exported_found
-returns-clause-exported_found c h = h.seen.found (clean_is (λ disk. one_token.trees) h.seen.conn)
+returns-clause-exported_found c h = h.seen.1.found (clean_is (λ disk. one_token.trees) h.seen.1.conn)
 
 pub returns-clause-exported_written : goal.returns-clause-exported_written
 returns-clause-exported_written c h =

@@ -4,7 +4,7 @@ use Rattle.oathd_roster.specs.declared.fault.RosterFault.TheVariants.{Command}
 use Rattle.oathd_seats.specs.Commands.{EndsOutputNamed}
 use Rattle.oathd_seats.specs.declared.fault.SeatsFault.{SeatsFault}
 use Rattle.oathd_seats.specs.declared.fault.SeatsFault.TheVariants.{Roster}
-use Rattle.oathd_seats.proofs.CommandLemmas.{has_told_roster, output_fails, unseen_output}
+use Rattle.oathd_seats.proofs.CommandLemmas.{has_told_roster, output_fails_named, unseen_named}
 use Rattle.oathd_seats.proofs.roster.roster_named_store.Goals as goal
 
 pub returns-in_err-named-clause-fault : goal.returns-in_err-named-clause-fault
@@ -14,7 +14,7 @@ returns-in_err-named-clause-fault g c =
     err_is c.from_residual.result fault
     (λ (x : SeatsFault). IfSome a (EndsOutputNamed g.S.Store g.D.Database.finds c.args.cluster.now c.args.settings 16777216 c.args.node x))
     c.from_residual.ensures.1
-    (unseen_output g.S.Store g.D.Database.finds c.args.cluster.now c.args.settings 16777216 c.args.node a fault c.in_err-named.ensures.fault)
+    (unseen_named g.S.Store g.D.Database.finds c.args.cluster.now c.args.settings 16777216 c.args.node a fault c.in_err-named.ensures.fault)
 
 pub returns-in_err-write_roster-clause-fault : goal.returns-in_err-write_roster-clause-fault
 returns-in_err-write_roster-clause-fault g c =
@@ -24,7 +24,7 @@ returns-in_err-write_roster-clause-fault g c =
     err_is c.from_residual-in_err-write_roster.result (Roster (Command fault))
     (λ (x : SeatsFault). IfSome a (EndsOutputNamed g.S.Store g.D.Database.finds c.args.cluster.now c.args.settings 16777216 c.args.node x))
     c.from_residual-in_err-write_roster.ensures.1
-    (output_fails g.S.Store g.D.Database.finds c.args.cluster.now c.args.settings 16777216 c.args.node a users.book users.floors.items
+    (output_fails_named g.S.Store g.D.Database.finds c.args.cluster.now c.args.settings 16777216 c.args.node a users.book users.floors.items
     c.in_ok-named.ensures.users _ fault c.in_err-write_roster.ensures.fault)
 
 pub returns-clause-told : goal.returns-clause-told
