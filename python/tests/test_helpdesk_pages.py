@@ -6,9 +6,13 @@ from __future__ import annotations
 
 import base64
 import csv
+import html
 import io
+import json
 import os
 import re
+import shutil
+import subprocess
 import time
 import unittest
 from importlib.util import find_spec
@@ -40,6 +44,24 @@ if TYPE_CHECKING or HAS_PACKAGES and HAS_ARGON2:
     HASH = argon2.PasswordHasher(time_cost=1, memory_cost=8, parallelism=1).hash(PASSWORD)
 
 STAFF, USERS = ("sam", "kim"), ("ann", "bob", "cid")
+# Runs a script of pages over a search that somebody types a text into, and prints what its parts have afterwards.
+TYPED = """
+const [script, text, answer] = process.argv.slice(1), parts = {};
+function made() {
+    return {dataset: {}, append() {}, replaceChildren(...all) { this.all = all; },
+            addEventListener(_, call) { this.call = call; }};
+}
+for (const id of ["q", "count", "results", "pager", "former", "next"]) parts[id] = made();
+globalThis.document = {createElement: made, getElementById: (id) => parts[id] ?? null};
+let asked;
+globalThis.fetch = async (path) => { asked = path; return {ok: true, status: 200, json: async () => JSON.parse(answer)}; };
+require(script);
+parts.q.value = text;
+parts.q.call();
+const link = (id) => [parts[id].href, parts[id].hidden];
+setTimeout(() => console.log(JSON.stringify({asked, count: parts.count.textContent, results: parts.results.all.length,
+    pager: parts.pager.hidden, former: link("former"), next: link("next")})), 300);
+"""
 WAITING = 'href="(/waiting/[^"]*)"'
 real_time = time.time
 
@@ -533,6 +555,43 @@ class Pages(Case):
         self.assertIn('value="new one"', sam.ask("/enrol?name=new%20one").page)
         for browser, path in (sam, "/?q=user"), (sam, "/"), (kim, "/?q=new+one"):
             self.assertNotIn('id="enrol">', browser.ask(path).page, path)
+
+    def test_the_pages_of_a_search(self) -> None:
+        """Links lead to all users that were found, a page after the other, and back. The address has page and text."""
+        Path("users").write_text(rows_of(*STAFF, *("u&%d" % number for number in range(1, 121)), "z"))
+        site = Site()
+        sam, seen = site.log_in(), []
+        link = r'<a id="%s" rel="\w+" href="([^"]*)"( hidden)?>'
+        path = "/?q=u%26"
+        for said in "120 found, 1 to 50 are shown", "120 found, 51 to 100 are shown", "120 found, 101 to 120 are shown":
+            self.assertEqual(sam.ask(path).find('id="count"[^>]*>([^<]*)'), said)
+            seen += re.findall(r'<li><a href="/users/[^"]*">([^<]*)', sam.page)
+            path = html.unescape(sam.find(link % "next"))
+        self.assertEqual(seen, ["u&amp;%d" % number for number in range(1, 121)])
+        self.assertEqual((path, re.findall(link % "next", sam.page)), ("", [("", " hidden")]), "the last page")
+        sam.ask(html.unescape(sam.find(link % "former")))
+        self.assertIn("51 to 100", sam.page)
+        self.assertIn('value="u&amp;"', sam.page)
+        for page, said in ("0", "1 to 50"), ("-1", "1 to 50"), ("x", "1 to 50"), ("4", "101 to 120"), ("9" * 9, "101 to"):
+            self.assertIn(said, sam.ask("/?q=u%26&page=" + page).page, page)
+        self.assertEqual(sam.ask("/?q=z&page=2").find('id="count"[^>]*>([^<]*)'), "1 found")
+        self.assertIn('<nav id="pager" aria-label="Pages of the search" hidden>', sam.page)
+
+    @unittest.skipUnless(shutil.which("node"), "needs nodejs")
+    def test_the_pages_of_a_search_while_typing(self) -> None:
+        """The script has the same words and links as the page without it."""
+        Path("users").write_text(rows_of(*STAFF, *("u%d" % number for number in range(120))))
+        sam, told = Site().log_in(), []
+        for text in "u", "sam":
+            answer = sam.ask("/search.json?q=" + text).page
+            done = subprocess.run(["node", "-e", TYPED, str(web.FOLDER / "static" / "live.js"), text, answer],
+                                  capture_output=True, text=True, check=True, timeout=60)
+            told.append(json.loads(done.stdout))
+        shown = {"asked": "/search.json?q=u", "count": "120 found, 1 to 50 are shown", "results": 50, "pager": False,
+                 "former": ["", True], "next": ["/?q=u&page=2", False]}
+        one = {"asked": "/search.json?q=sam", "count": "1 found", "results": 1, "pager": True, "former": ["", True],
+               "next": ["", True]}
+        self.assertEqual(told, [shown, one])
 
     def test_wrong_addresses(self) -> None:
         """What has no page gets one of ours, with the way back, and tells nothing to a stranger."""

@@ -157,13 +157,13 @@ class Book:
         """Returns the name that a new token gets at the members."""
         return (user_of(read_rows(token.row("-"))[0], self.names).token or b"").decode()
 
-    def search(self, text: str, most: int) -> tuple[list[User], int]:
-        """Returns the first users whose names have the text, those that begin with it first, and how many there are."""
+    def search(self, text: str) -> list[User]:
+        """Returns the users whose names have the text, those that begin with it first."""
         self.refresh()
         text = text.strip().casefold()
         found = [pair for pair in self.folded if text in pair[0]]
         found.sort(key=lambda pair: not pair[0].startswith(text))
-        return [user for _, user in found[:most]], len(found)
+        return [user for _, user in found]
 
     @contextlib.contextmanager
     def lock(self, patience: float = 20) -> Iterator[None]:

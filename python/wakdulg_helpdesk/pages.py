@@ -2,9 +2,10 @@
 from __future__ import annotations
 
 import json
+import re
 import time
 from itertools import islice, takewhile
-from typing import Any, Callable, Iterator
+from typing import Any, Callable, Iterator, NamedTuple
 from urllib.parse import urlencode
 
 from flask import Flask, Response, abort, jsonify, redirect, render_template, request
@@ -44,6 +45,31 @@ OF_TWO = frozenset({"replace", "import"})
 RETIRED = (BEGINS, "retired", "the users file is changed")
 COUNTED, HOUR = ROLES["all"], 3600
 PENDING = "Pending since %s: not all members have the users file. It is copied again by itself. %s"
+
+
+class Found(NamedTuple):
+    """A page of a search: the text, the users of the page, what is said of their number, and the paths of the page
+    before it and of the one after it, or "". `count` is the number of all users that were found."""
+    text: str
+    users: list[User]
+    count: int
+    said: str
+    former: str
+    next: str
+
+
+def found_in(users: list[User], text: str, page: str) -> Found:
+    """Returns a page of the users that a search found. A number that no page has leads to the nearest one."""
+    pages = max(1, -(-len(users) // MOST_FOUND))
+    number = min(max(1, int(page) if re.fullmatch("[0-9]{1,9}", page) else 1), pages)
+    begin = (number - 1) * MOST_FOUND
+    shown = users[begin:begin + MOST_FOUND]
+    said = "%d found" % len(users)
+    if pages > 1:
+        said += ", %d to %d are shown" % (begin + 1, begin + len(shown))
+    former, after = ("/?" + urlencode({"q": text, "page": each}) if 1 <= each <= pages else ""
+                     for each in (number - 1, number + 1))
+    return Found(text, shown, len(users), said, former, after)
 
 
 class Site(web.Pages):
@@ -127,24 +153,23 @@ class Site(web.Pages):
                                   fault="The users file has no such user."), 404))
         return user
 
-    def found(self) -> tuple[str, list[User], int]:
+    def found(self) -> Found:
+        """Returns the page of a search that an address names."""
         text = request.args.get("q", "")
-        users, count = self.book.search(text, MOST_FOUND)
-        return text, users, count
+        return found_in(self.book.search(text), text, request.args.get("page", ""))
 
     def show_search(self) -> Reply:
         session = self.own_session()
-        text, users, count = self.found()
-        return self.page("search.html", "Search", session, text=text, users=users, count=count, fault=self.book.fault,
+        return self.page("search.html", "Search", session, found=self.found(), fault=self.book.fault,
                          may_enrol="enrol" in self.rights(session))
 
     def search(self) -> Reply:
         begin = time.thread_time()
         if self.session() is None:
             return jsonify({}), 401
-        text, users, count = self.found()
-        answer = Response(json.dumps({"count": count, "users": [[user.hex, user.text, user.kind()] for user in users]}),
-                          content_type="application/json")
+        found = self.found()
+        told = {**found._asdict(), "users": [[user.hex, user.text, user.kind()] for user in found.users]}
+        answer = Response(json.dumps(told), content_type="application/json")
         answer.headers["Server-Timing"] = "search;dur=%.1f" % (1000 * (time.thread_time() - begin))
         return answer
 

@@ -10,12 +10,22 @@ function element(name, text) {
 // The search answers while somebody types. A late answer to an earlier text is dropped.
 function searchWhileTyping(field) {
     const count = document.getElementById("count"), results = document.getElementById("results");
-    const enrol = document.getElementById("enrol");
+    const enrol = document.getElementById("enrol"), pager = document.getElementById("pager");
     let latest = 0, timer;
 
+    // The links to the page before and to the one after, as far as there are any.
+    function lead(found) {
+        pager.hidden = !found.former && !found.next;
+        for (const name of ["former", "next"]) {
+            const link = document.getElementById(name);
+            link.hidden = !found[name];
+            link.href = found[name];
+        }
+    }
+
     function show(found) {
-        const more = found.count > found.users.length ? ", the first " + found.users.length + " are shown" : "";
-        count.textContent = found.count + " found" + more;
+        count.textContent = found.said;
+        lead(found);
         results.replaceChildren(...found.users.map(([hex, name, kind]) => {
             const item = element("li"), link = element("a", name);
             link.href = "/users/" + hex;
