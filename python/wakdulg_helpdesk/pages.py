@@ -49,10 +49,10 @@ PENDING = "Pending since %s: not all members have the users file. It is copied a
 
 class Found(NamedTuple):
     """A page of a search: the text, the users of the page, what is said of their number, and the paths of the page
-    before it and of the one after it, or "". `count` is the number of all users that were found."""
+    before it and of the one after it, or "". `total` is the number of all users that were found."""
     text: str
     users: list[User]
-    count: int
+    total: int
     said: str
     former: str
     next: str

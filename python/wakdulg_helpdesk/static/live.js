@@ -33,7 +33,7 @@ function searchWhileTyping(field) {
             return item;
         }));
         if (!enrol) return;
-        enrol.hidden = found.count > 0 || !field.value.trim();
+        enrol.hidden = found.total > 0 || !field.value.trim();
         enrol.firstElementChild.href = "/enrol?name=" + encodeURIComponent(field.value.trim());
     }
 
