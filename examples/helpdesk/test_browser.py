@@ -564,7 +564,7 @@ class Test:
                         "k en,%s,HOTP,6\nlin,%s,TOTP,6\n" % (*(secret[number] for number in range(1, 5)), bobs))
         self.upload(file)
         told = browser.texts("#faults li")
-        faults = [re.findall(r"line (\d+)[^:]*: (\w+)", fault)[0] for fault in told]
+        faults = [re.search(r"line (\d+).* \((\w+)\)$", fault).groups() for fault in told]
         expect("each row's fault", faults, [("2", "DuplicateUser"), ("3", "BadSecret"), ("4", "BadDigits"),
                                             ("6", "BadName"), ("7", "DuplicateSecret")])
         expect("whose secret it is", "lin would have the secret of bob, line" in told[-1], True)
@@ -648,13 +648,13 @@ class Test:
         await_that("all are well", notes, ["ok"] * 3)
         browser.picture("cluster")
         self.site.stop("node 3")
-        await_that("the page says that member 3 is silent", lambda: notes()[2], "silent")
+        await_that("the page says that member 3 is silent", lambda: notes()[2].endswith("(silent)"))
         browser.picture("cluster-a-member-down")
         browser.open(place("ann"))
         says = browser.texts("#states tbody td:nth-child(2)")
         expect("on the page of a user", says, ["yes", "yes", "silent"])
         self.act("ann", "Unlock")
-        expect("what an unlock says", "member 3: silent" in browser.text("[role=status]"), True)
+        expect("what an unlock says", "member 3: it didn't answer" in browser.text("[role=status]"), True)
         self.enrol_without_a_member()
         browser.open("/cluster")
         self.site.start_nodes(3)

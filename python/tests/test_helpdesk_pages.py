@@ -85,7 +85,7 @@ class Site:
         self.cluster, self.members = self.desk.cluster, self.desk.members
         self.next_codes = self.cluster.next = self.next_codes or self.cluster.next
         table: Any = Table()
-        site = pages.Site(parts, self.members, table, Logs({}), "staff", self.most_acts, self.is_of_two)
+        site = pages.Site(parts, self.members, table, Logs({1: "log.1"}), "staff", self.most_acts, self.is_of_two)
         self.application = pages.make_application(site)
         self.application.testing = True
 
@@ -524,17 +524,18 @@ class Pages(Case):
         asked = site.cluster.asked
         cases: list[tuple[str, dict[str, str], str]] = [
             ("/enrol", {"name": "", "kind": "hotp"}, "NoName"), ("/enrol", {"name": "new"}, "BadType"),
-            ("/enrol", {"name": "n ew", "kind": "hotp"}, "BadName"),
+            ("/enrol", {"name": "n ew", "kind": "hotp"}, "a name has no blanks: 'n ew'. Choose another name (BadName)"),
             ("/enrol", {"name": "ann", "kind": "totp"}, "DuplicateUser"),
             ("/enrol", {"name": "kim", "kind": "totp"}, "Protected"),
             ("/enrol", {"name": "x" * 65, "kind": "totp"}, "NameTooLong"),
-            (place("kim", "replace"), {"kind": ""}, "Protected"), (place("kim", "retire"), {}, "Protected"),
+            (place("kim", "replace"), {"kind": ""}, "Ask whoever runs this site (Protected)"),
+            (place("kim", "retire"), {}, "Protected"),
             (place("ann", "replace"), {"kind": "other"}, "BadType"),
             (place("ann", "resync"), {"first": "12", "second": "000002"}, "BadCode"),
             (place("ann", "resync"), {"first": "000001", "second": "000001"}, "SameCode")]
         for path, fields, fault in cases:
             sam.ask(path).send(path, code=site.code(), **fields)
-            told = sam.status, fault in sam.alert(), "your code is good still" in sam.alert()
+            told = sam.status, fault in html.unescape(sam.alert()), "your code is good still" in sam.alert()
             self.assertEqual(told, (409, True, True), "%s: %s" % (path.rpartition("/")[2], fault))
         Path("users").write_text(Path("users").read_text() + "HOTP bad - 1\n")
         site.act(sam, "ann", "retire")
@@ -617,6 +618,38 @@ class Pages(Case):
         for data, delimiter in (text, ","), (text.replace(",", ";"), ";"), ("# a, b\n\n" + text.replace(",", ";"), ";"):
             good, faults = site.desk.check_import(data.encode(), "hex", None)
             self.assertEqual(([token.user for token in good], faults), (["bob2"], []), delimiter)
+
+    def test_words_of_refusals(self) -> None:
+        """Pages have a sentence with what to do, and the word of the node or the program behind it. The record has the
+        word alone."""
+        site = Site()
+        sam = site.log_in()
+        Path("log.1").write_text("".join('refused from=client:7 NO k %s user="ann"\n' % word for word in (
+            "UNKNOWN", "THROTTLED 5")) + 'accepted from=client:7 OK k 37 user="ann"\n')
+        cells = re.findall("<td>(?:refused|accepted)</td><td>([^<]*)", sam.ask(place("ann")).page)
+        self.assertEqual(cells[0], "37", "a factor")
+        for cell, word in zip(cells[1:], ("THROTTLED 5", "UNKNOWN")):
+            self.assertRegex(html.unescape(cell), r"^The [^(]* \(%s\)$" % word)
+        site.cluster.resync = mock.Mock(side_effect=wakdulg.Refused("INVALID"))
+        site.act(sam, "ann", "resync", first="000001", second="000002")
+        self.assertRegex(sam.alert(), r"the cluster refused it\. The code was wrong.* \(INVALID\)$")
+        self.assertEqual(outcomes()[0], "failed: the cluster: refused: INVALID")
+        for path in place("ann"), "/record":
+            self.assertRegex(sam.ask(path).text(), r"failed: the cluster refused it\. The code was[^<]*\(INVALID\)<")
+        site.members.unlock = mock.Mock(return_value="member 1: unlocked, member 2: silent")
+        site.act(sam, "ann", "unlock")
+        said = sam.ask(place("ann")).find('role="status" class="notice">([^<]*)')
+        self.assertIn("member 2: it didn't answer. Do it again when it is up (silent)", html.unescape(said))
+        rows = {"rows": [["1/3", "7", "all", "9", "aa", "bb", "silent"]], "said": "", "status": 1, "when": ""}
+        with mock.patch.object(Table, "now", lambda _: (1, rows)):
+            self.assertIn("Somebody has to look whether it runs (silent)</td>", sam.ask("/cluster").page)
+        file = io.BytesIO(b"user,key,type\nbob2,%s,hotp\n" % (b"31" * 20)), "list.csv"
+        sam.ask("/import").send("/import", file=file, secrets="hex", kind="")
+        self.assertRegex(sam.ask(sam.place).text() if sam.place else sam.alert(), r"the names user, .* \(NoColumn\)")
+        self.assertNotIn("--column", sam.page)
+        file = io.BytesIO(b"user,secret,type\nbob2,%s,hotp\nkim,zz,hotp\n" % (b"31" * 20)), "list.csv"
+        sam.ask("/import").send("/import", file=file, secrets="hex", kind="")
+        self.assertRegex(sam.ask(sam.place).text(), r"line 3: [^<]* Choose the form [^<]* \(BadSecret\)</li>")
 
     def test_a_password_of_a_user(self) -> None:
         """A user with a password is resynchronized too: the line has the password of the row."""

@@ -18,7 +18,7 @@ if TYPE_CHECKING or HAS_PACKAGES:
     from wakdulg_helpdesk.keeping import Keeper
     from wakdulg_helpdesk.record import Record
     from wakdulg_helpdesk.sessions import Sessions
-    from wakdulg_onboard.tokens import read_rows
+    from wakdulg_onboard.tokens import Fault, read_rows
     from wakdulg_selfservice import pages
 
 USERS, WORD = ("ann", "bob"), "word-of-a-user"
@@ -153,6 +153,15 @@ class Pages(OverSite):
             site.replace(ann)
         said = "could not be kept" in ann.alert()
         self.assertEqual((ann.status, said, secret_of("ann"), left()), (503, True, before, []), "nothing")
+
+    def test_words_of_faults(self) -> None:
+        """A user learns what to do, and the word that the helpdesk knows."""
+        site = Site()
+        ann = site.log_in()
+        for name, todo in ("Locked", "the site is busy. Try again in a minute"), ("Protected", "ask your helpdesk"):
+            with mock.patch("wakdulg_helpdesk.acts.Desk.replace", side_effect=Fault("the file", name, "words")):
+                site.replace(ann)
+            self.assertEqual((ann.status, ann.alert()), (409, "Nothing was done: %s (%s)" % (todo, name)))
 
     def test_three_phones_a_day(self) -> None:
         """Three phones a day, also over restarts. What was refused doesn't count, and the fourth costs no code."""

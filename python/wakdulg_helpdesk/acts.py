@@ -223,7 +223,8 @@ class Desk:
                 faults.append("oathd check: " + said)
                 break
             token, _ = rows.pop(int(number) - 1)
-            faults.append("%s: oathd check: %s" % (token.place, said.split(": ", 2)[2].splitlines()[0]))
+            name, _, own = said.split(": ", 2)[2].partition("\n")
+            faults.append("%s: %s: %s" % (token.place, name, own.partition(": ")[2] or own.strip()))
         if len(faults) == MOST_FAULTS:
             faults.append("the file: oathd check: more faults are not looked for")
         return faults

@@ -283,7 +283,7 @@ def run_hook(words: list[str], patience: float, text: str = "") -> tuple[bool, s
         hook = subprocess.Popen(words, stdin=subprocess.PIPE, stdout=subprocess.PIPE, stderr=subprocess.STDOUT,
                                 start_new_session=True)
     except OSError as fault:
-        return False, type(fault).__name__
+        return False, "the hook can't be started (%s)" % type(fault).__name__
     try:
         said = hook.communicate(text.encode(), timeout=patience)[0]
     except subprocess.TimeoutExpired:

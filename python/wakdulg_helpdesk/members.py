@@ -272,7 +272,8 @@ class Table:
         try:
             table = self.members.table()
         except (OSError, subprocess.SubprocessError) as fault:
-            table = {**NOTHING, "said": type(fault).__name__}
+            said = "oathd status gave no answer: tell whoever runs this site (%s)" % type(fault).__name__
+            table = {**NOTHING, "said": said}
         self.asked = time.monotonic()
         return table
 

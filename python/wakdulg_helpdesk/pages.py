@@ -12,7 +12,7 @@ from flask import Flask, Response, abort, jsonify, redirect, render_template, re
 from flask.typing import ResponseReturnValue as Reply
 
 import wakdulg
-from wakdulg_helpdesk import record_view, web
+from wakdulg_helpdesk import record_view, web, words
 from wakdulg_helpdesk.acts import KINDS, Act, Shown
 from wakdulg_helpdesk.book import User
 from wakdulg_helpdesk.everybody import MOST, Everybody
@@ -139,7 +139,7 @@ class Site(web.Pages):
 
     def warning(self) -> str:
         since = self.book.pending()
-        return "" if since is None else PENDING % (at_moment(since), self.book.said)
+        return "" if since is None else PENDING % (at_moment(since), words.of_fault(self.book.said))
 
     def user_of(self, name: str, is_retired: bool = False) -> User:
         """Returns the user of a path. With `is_retired` it may be one of no row."""
@@ -160,7 +160,7 @@ class Site(web.Pages):
 
     def show_search(self) -> Reply:
         session = self.own_session()
-        return self.page("search.html", "Search", session, found=self.found(), fault=self.book.fault,
+        return self.page("search.html", "Search", session, found=self.found(), fault=words.of_fault(self.book.fault),
                          may_enrol="enrol" in self.rights(session))
 
     def search(self) -> Reply:
@@ -200,7 +200,7 @@ class Site(web.Pages):
 
     def show_user(self, name: str) -> Reply:
         session, user = self.own_session(), self.user_of(name)
-        acts = {act: words for act, words in ACTS.items() if act in self.rights(session)}
+        acts = {act: texts for act, texts in ACTS.items() if act in self.rights(session)}
         waiting = [asked for asked in self.waiting.all() if asked.act.user == user.text]
         return self.page("user.html", user.text, session, acts=acts, answers=self.logs.last(user.name, MOST_LINES),
                          waiting=waiting, **self.done_to(user), **self.states_of(user))
@@ -223,7 +223,8 @@ class Site(web.Pages):
         """Returns a table with what the page says of it. Members that all serve an older users file are well, and the
         file isn't in force."""
         pending = "" if self.book.pending() is None else "the members are well, and not all have the users file"
-        return {**table, "said": table["said"] or pending or "all members are well"}
+        rows = [[*row[:-1], words.of_note(row[-1])] for row in table["rows"] if row]
+        return {**table, "rows": rows, "said": table["said"] or pending or "all members are well"}
 
     def show_cluster(self) -> Reply:
         session = self.own_session()
@@ -326,7 +327,7 @@ class Site(web.Pages):
         try:
             ready = getattr(self.desk, act)(user, request.form)
         except (Fault, OSError) as fault:
-            return self.confirmation(session, user, act, GOOD_STILL % fault, 409)
+            return self.confirmation(session, user, act, GOOD_STILL % words.of_fault(fault), 409)
         told, status = self.perform(session, ready)
         return self.confirmation(session, user, act, told, status) if told else redirect(self.path_after(ready), 303)
 
@@ -342,7 +343,7 @@ class Site(web.Pages):
         try:
             ready = self.desk.enrol(request.form)
         except (Fault, OSError) as fault:
-            return self.show_enrol(GOOD_STILL % fault, 409)
+            return self.show_enrol(GOOD_STILL % words.of_fault(fault), 409)
         told, status = self.perform(session, ready)
         return self.show_enrol(told, status) if told else redirect(self.path_after(ready), 303)
 
@@ -353,7 +354,7 @@ class Site(web.Pages):
         try:
             path = self.keep(session, act)
         except OSError as fault:
-            return NOT_KEPT % type(fault).__name__, 503
+            return NOT_KEPT % words.of_system(fault), 503
         if self.note(session.user, act.name, act.user, "asks another one of staff"):
             self.keeper.forget(path)
             return NOT_BEGUN, 503
@@ -364,7 +365,7 @@ class Site(web.Pages):
     @staticmethod
     def title_of(asked: Asked) -> str:
         """Returns the title of an act that waits."""
-        titles = {**{act: words[0] for act, words in ACTS.items()}, "import": "Import", "enrol": "Enrol"}
+        titles = {**{act: texts[0] for act, texts in ACTS.items()}, "import": "Import", "enrol": "Enrol"}
         return "%s: %s" % (titles[asked.act.name], asked.act.user)
 
     def show_waiting(self) -> Reply:
@@ -399,7 +400,7 @@ class Site(web.Pages):
         try:
             told, status = self.confirmed(session, self.waiting.take(id))
         except Fault as fault:
-            told, status = str(fault), 409
+            told, status = words.of_fault(fault), 409
         if told:
             return self.page("message.html", self.title_of(asked), session, fault=told), status
         return redirect("/" if act.name == "import" else "/users/" + to_hex(act.user), 303)
@@ -454,7 +455,7 @@ class Site(web.Pages):
             form, kind = "base32" if form == "base32" else "hex", kind if kind in KINDS else None
             tokens, faults = self.desk.check_import(data, form, kind)
         except Fault as fault:
-            return self.show_import(str(fault), 400)
+            return self.show_import(words.of_fault(fault), 400)
         name = self.sessions.new_name()[:16]
         session.imports = {name: (tokens, faults)}
         return redirect("/import/" + name, 303)
@@ -479,7 +480,7 @@ class Site(web.Pages):
         try:
             ready = self.desk.import_rows(tokens)
         except (Fault, OSError) as fault:
-            return self.show_dry_run(name, GOOD_STILL % fault, 409)
+            return self.show_dry_run(name, GOOD_STILL % words.of_fault(fault), 409)
         told, status = self.perform(session, ready)
         if told:
             return self.show_dry_run(name, told, status)

@@ -20,6 +20,7 @@ from werkzeug.exceptions import HTTPException
 from werkzeug.wrappers import Response as Answer
 
 import wakdulg
+from wakdulg_helpdesk import words
 from wakdulg_helpdesk.acts import Act, Desk
 from wakdulg_helpdesk.book import run_hook
 from wakdulg_helpdesk.keeping import Keeper, Kept
@@ -224,7 +225,7 @@ class Pages:
         try:
             path = self.keep(session, act) if path is None else path
         except OSError as fault:
-            return NOT_KEPT % type(fault).__name__, 503
+            return NOT_KEPT % words.of_system(fault), 503
         begun, refusal = self.begin(session.user, act, **more)
         if refusal:
             self.keeper.forget(path)
@@ -234,7 +235,8 @@ class Pages:
             outcome = act.run()
         except (Fault, OSError) as fault:
             return self.failed(session, act, path, begun, fault)
-        session.notice = "%s: %s." % (act.user if act.name != "import" else "Import", outcome)
+        told = words.of_outcome(outcome)
+        session.notice = "%s: %s." % (act.user if act.name != "import" else "Import", told)
         session.alert = self.note(session.user, act.name, act.user, outcome, of=begun, **more)
         if act.name == "replace":
             self.tell(act.user, "Your phone was replaced at %s %s." % (at_moment(time.time()), self.by_whom()))
@@ -277,7 +279,7 @@ class Pages:
 
     def words_of(self, fault: Exception) -> str:
         """Returns what whoever acts is told of a fault."""
-        return str(fault)
+        return words.of_fault(fault)
 
     def kept(self) -> list[Kept]:
         """Returns the secrets that this browser may see still: those whose tokens the users file has."""
@@ -348,7 +350,7 @@ class Pages:
             self.keeper.move(self.cookie(), name)
         except OSError as fault:
             self.sessions.end(name)
-            return self.show_login(NOT_KEPT % type(fault).__name__, 503)
+            return self.show_login(NOT_KEPT % words.of_system(fault), 503)
         self.sessions.end(self.cookie())
         answer = redirect(own_path(request.form.get("next")) or "/", 303)
         self.set_cookie(answer, name)
@@ -404,7 +406,9 @@ def make_application(site: Pages, routes: Sequence[Route]) -> Flask:
     application = Flask(site.name, root_path=str(FOLDER))
     application.config["MAX_CONTENT_LENGTH"], application.request_class = 2_000_000, Request
     application.jinja_loader = FileSystemLoader(site.templates)
-    application.jinja_env.filters.update(at_moment=at_moment, moment_of=moment_of, to_hex=to_hex)
+    application.jinja_env.filters.update(at_moment=at_moment, moment_of=moment_of, to_hex=to_hex,
+                                         of_answer=words.of_answer, of_fault=words.of_fault,
+                                         of_outcome=words.of_outcome)
     application.jinja_env.trim_blocks = application.jinja_env.lstrip_blocks = True
     for path, view, method in routes:
         application.add_url_rule(path, method + path, view, methods=[method])

@@ -10,7 +10,7 @@ from flask import Flask, Response, redirect, request
 from flask.typing import ResponseReturnValue as Reply
 
 import wakdulg
-from wakdulg_helpdesk import web
+from wakdulg_helpdesk import web, words
 from wakdulg_helpdesk.acts import Act, Shown
 from wakdulg_helpdesk.book import User
 from wakdulg_helpdesk.keeping import Kept
@@ -111,8 +111,8 @@ class Site(web.Pages):
         if not self.is_own_form():
             return self.show_resync(web.FOREIGN, 403)
         user = field("user")
-        words = code("code"), code("next"), field("password")
-        outcome, told = self.ask(user, lambda: self.cluster.resync(self.asked_as(user), *words))
+        line = code("code"), code("next"), field("password")
+        outcome, told = self.ask(user, lambda: self.cluster.resync(self.asked_as(user), *line))
         if told:
             return self.show_resync(*told)
         self.note(user, "resync", user, "resynchronized at factor %d" % outcome.factor)
@@ -167,7 +167,9 @@ class Site(web.Pages):
         return fault, status
 
     def words_of(self, fault: Exception) -> str:
-        return "ask your helpdesk (%s)" % type(fault).__name__
+        name = words.name_of(fault)
+        todo = "the site is busy. Try again in a minute" if name in ("Changed", "Locked") else "ask your helpdesk"
+        return "%s (%s)" % (todo, name)
 
     def too_many(self, user: str) -> str:
         """Looks how often a user replaced the phone within a day, as the record has it: a restart forgets nothing."""
