@@ -2,8 +2,10 @@
 #![tactic(auto)]
 
 mod acting;
+mod laws;
 mod looks;
 mod named;
 mod plain;
 
 pub use acting::perform;
+pub use laws::actions_are_worked;
