@@ -17,8 +17,8 @@ use Rattle.named_store.specs.Looked.{HasLooked, IsLookFault, IsUnseen}
 use Rattle.named_store.specs.declared.fault.LookFault.{LookFault}
 use Rattle.named_store.specs.declared.fault.LookFault.TheVariants as look
 use Rattle.named_store.specs.declared.fault.NamedFault.TheVariants as named
-use Rattle.place_seats.specs.Places.{own_seats}
-use Rattle.place_seats.proofs.PlaceLemmas.{own_seat_within}
+use Rattle.seated_store.specs.Places.{own_seats}
+use Rattle.seated_store.proofs.PlaceLemmas.{own_seat_within}
 use Rattle.oathd_database.specs.Commands.{HasOpened, IsRefused}
 use Rattle.oathd_database.specs.Users.{IsImported}
 use Rattle.oathd_database.specs.declared.fault.Fault.{Fault}

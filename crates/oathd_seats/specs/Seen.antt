@@ -9,7 +9,7 @@ use Rattle.floor_sql.specs.Calls.{HandsBack}
 use Rattle.floor_sql.specs.Held.{SqlHeld}
 use Rattle.roster_sql.specs.declared.entry.Entry.{Entry}
 use Rattle.seated_store.specs.Seated.{SeatedRecord}
-use Rattle.place_seats.specs.Places.{own_seats}
+use Rattle.seated_store.specs.Places.{own_seats}
 use Rattle.named_store.specs.Entries.{entries_of}
 use Rattle.named_store.specs.Looked.{HasLooked, IsUnseen}
 use Rattle.named_store.specs.declared.fault.LookFault.{LookFault}

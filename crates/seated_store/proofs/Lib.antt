@@ -1,2 +1,3 @@
 pub mod SeatLemmas
 pub mod CallLemmas
+pub mod PlaceLemmas

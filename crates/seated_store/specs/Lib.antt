@@ -1,3 +1,4 @@
 pub mod Seats
 pub mod Seated
 pub mod Broken
+pub mod Places

@@ -5,7 +5,9 @@
 #![tactic(auto)]
 
 mod laws;
+mod places;
 mod store;
 
-pub use laws::{seats_are_worked, seats_can_be_broken};
+pub use laws::{places_are_the_store, places_are_worked, seats_are_worked, seats_can_be_broken};
+pub use places::own_seats;
 pub use store::{BelowReading, SeatedStore};

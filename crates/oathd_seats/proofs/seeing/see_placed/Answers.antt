@@ -1,7 +1,7 @@
 use Rattle.std.proofs.Common.{ℕ, IfSome, length, sym, subst}
 use Rattle.seated_store.specs.Seats.{AreSeats}
-use Rattle.place_seats.specs.Places.{own_seats}
-use Rattle.place_seats.proofs.PlaceLemmas.{own_seats_are}
+use Rattle.seated_store.specs.Places.{own_seats}
+use Rattle.seated_store.proofs.PlaceLemmas.{own_seats_are}
 use Rattle.oathd_database.specs.declared.fault.Fault.TheVariants.{Memory}
 use Rattle.oathd_roster.specs.declared.fault.RosterFault.TheVariants.{Command}
 use Rattle.oathd_seats.specs.Seen.{IsNotPlaced}

@@ -9,7 +9,7 @@ use Rattle.floor_store.specs.Content.{Content, opening_row}
 use Rattle.floor_store.specs.Records.{PassRecord, RowRecord}
 use Rattle.seated_store.specs.Seats.{AreSeats, pass_above, row_at, seated_content, seated_rows, with_token}
 use Rattle.seated_store.proofs.SeatLemmas.{token_of_seat}
-use Rattle.place_seats.specs.Places.{HasOwnPass, own_seats}
+use Rattle.seated_store.specs.Places.{HasOwnPass, own_seats}
 
 -- the seat of a token is the token
 pub own_seat : (tokens token seat : ℕ) → slice_get (own_seats tokens) token ≡ Some seat → seat ≡ token

@@ -1,5 +1,7 @@
+//! The seats of a store by position: each token is in the row of its place in the users file.
+
 ghost use Rattle.std.specs.Prelude.{◌≡◌, IfOk};
-ghost use Rattle.place_seats.specs.Places.{own_seats};
+ghost use Rattle.seated_store.specs.Places.{own_seats};
 
 use std::alloc::{AllocError, Global};
 

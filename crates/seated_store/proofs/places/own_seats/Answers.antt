@@ -1,6 +1,6 @@
 use Rattle.std.proofs.Common.{List, ℕ, [], ◌∷◌, ◌++◌, sym, ap, ◌∙◌}
-use Rattle.place_seats.proofs.PlaceLemmas.{one_more}
-use Rattle.place_seats.proofs.seats.own_seats.Goals as goal
+use Rattle.seated_store.proofs.PlaceLemmas.{one_more}
+use Rattle.seated_store.proofs.places.own_seats.Goals as goal
 
 pub loop-token-preserved : goal.loop-token-preserved
 loop-token-preserved c =

@@ -1,9 +1,9 @@
 -- Own seats show the store below.
 use Rattle.std.proofs.Common.{ℕ, ap, ◌∙◌, sym}
 use Rattle.seated_store.specs.Seats.{seated_content}
-use Rattle.place_seats.specs.Places.{own_seats}
-use Rattle.place_seats.proofs.PlaceLemmas.{own_content, own_rows, own_seats_are}
-use Rattle.place_seats.proofs.laws.places_are_the_store.Goals as goal
+use Rattle.seated_store.specs.Places.{own_seats}
+use Rattle.seated_store.proofs.PlaceLemmas.{own_content, own_rows, own_seats_are}
+use Rattle.seated_store.proofs.laws.places_are_the_store.Goals as goal
 
 pub returns-clause-seats : goal.returns-clause-seats
 returns-clause-seats g c tokens = own_seats_are tokens
