@@ -1,4 +1,4 @@
-"""Asks running nodes of a cluster by names for reports, under an operator's or a reader's key.
+"""Asks running nodes of a cluster for reports, under an operator's or a reader's key.
 
     key = wakdulg.operator.read_operator("/etc/my/reader")      # a line `reader NUMBER KEY` or `operator NUMBER KEY`
     status = wakdulg.operator.ask(key, ("127.0.0.1", 7101), 1, "STATUS")

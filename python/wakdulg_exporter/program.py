@@ -1,4 +1,4 @@
-"""Serves the states of running nodes of a cluster by names to Prometheus.
+"""Serves the states of running nodes of a cluster to Prometheus.
 
     wakdulg-exporter --operator KEYFILE [--listen ADDRESS:PORT] NODES     serves /metrics, else at 127.0.0.1:9717
     wakdulg-exporter --operator KEYFILE --once NODES                      prints the metrics once

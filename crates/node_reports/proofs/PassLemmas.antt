@@ -1,11 +1,11 @@
 -- The reading of the audit list keeps a store's content.
-use Rattle.std.proofs.Common.{◌≡◌, ◌⊎◌, inl, inr, ℕ, ◌≤◌, List, Option, Some, None, Result, Ok, Err, OnOk, OnErr, refl, sym, ap, ◌∙◌, length, arith}
+use Rattle.std.proofs.Common.{◌≡◌, inl, inr, ◌≤◌, Option, Some, None, Result, Ok, Err, OnOk, OnErr, refl, ap, length, arith}
 use Rattle.std.specs.Prelude.{is_some}
 use Rattle.sqlite.specs.Store.{Ghosts}
 use Rattle.sqlite.specs.State.{HasCleanDisk, Survives}
 use Rattle.sqlite.specs.Held as sql
 use Rattle.floor_store.specs.Content.{Content}
-use Rattle.floor_store.specs.Held.{Breaks, Makes, OldOrNew, Puts}
+use Rattle.floor_store.specs.Held.{Puts}
 use Rattle.floor_store.specs.declared.fault.StoreFault.{StoreFault}
 use Rattle.floor_sql.specs.Calls.{ReadsAudit}
 use Rattle.floor_sql.specs.Held.{Leaves, SqlHeld, failures_of, sql_held}

@@ -1,8 +1,8 @@
 -- The lines of a text, and the pushes of them.
 use Rattle.std.proofs.Common.{◌≡◌, ◌<◌, ◌≤◌, ℕ, zero, suc, ◌+◌, ◌-◌, Bool, true, false, cond, List, [], ◌∷◌, ◌++◌, length, take, drop, Some, refl, sym, ap, ◌∙◌, arith, append_assoc, length-append}
 use Rattle.std.specs.Prelude.{◌==◌, ◌&&◌, not}
-use Rattle.std.specs.List.{concat, slice_split}
-use Rattle.std.proofs.lemmas.List.{drop_all, drop_at, length-drop, take_at}
+use Rattle.std.specs.List.{slice_split}
+use Rattle.std.proofs.lemmas.List.{drop_all, length-drop, take_at}
 use Rattle.std.proofs.lemmas.List.Splits.{length-slice_split}
 use Rattle.field_text.specs.Cut.{halves_of}
 use Rattle.operator_text.specs.Page.{PartRecord, has_room, pushed, pushed_all, takes}

@@ -7,8 +7,10 @@ use Rattle.sqlite.specs.State.{HasCleanDisk}
 use Rattle.floor_sql.specs.Held.{SqlHeld}
 use Rattle.floor_store.specs.Held.{Held}
 use Rattle.floors_file.specs.NamedWriting.{named_floors_text}
+use Rattle.floors_file.specs.Writing.{floors_text}
 use Rattle.named_floors.specs.Told.{TellingRecord, told_named}
 use Rattle.oath_node.specs.Hosted.{Hosted}
+use Rattle.oathd_database.specs.Floors.{told_floors}
 use Rattle.oathd_database.specs.Gates.{gates_text}
 use Rattle.operator_text.specs.Status.{status_text}
 use Rattle.operator_text.specs.declared.request.Report.{Report}
@@ -20,6 +22,7 @@ use Rattle.oathd_roster.specs.Roster.{roster_text}
 use Rattle.node_reports.specs.NodeStatus.{TellsInfo, TellsStore, rows_within}
 use Rattle.node_reports.specs.declared.named.NamedRows.{NamedRows}
 use Rattle.node_reports.specs.declared.node_status.NodeInfo.{NodeInfo}
+use Rattle.node_reports.specs.declared.placed.PlacedRows.{PlacedRows}
 
 -- ---- over a store by names
 
@@ -48,6 +51,20 @@ IsNamedText g rows store Roster moment text = HasCleanDisk (state g store.inner.
     → text ≡ roster_text rows.book.now store.seats rows.roster.items store.inner.mirror.rows
 IsNamedText g rows store Status moment text = ⊥
 IsNamedText g rows store Passes moment text = ⊥
+
+-- ---- over a store by place
+
+-- The text is that of the offline command over the rows of the store, of a cluster without names. It has no text of
+-- another report.
+abbrev pub IsPlacedText : {S : Type 0} → Ghosts S → PlacedRows → SeatedRecord (SqlHeld S) → Report → ℕ → List ℕ → Type 0
+IsPlacedText g rows store Gates moment text = HasCleanDisk (state g store.inner.conn)
+    → text ≡ gates_text rows.book.now (seated_content store.seats store.inner.mirror).rows
+IsPlacedText g rows store Floors moment text = HasCleanDisk (state g store.inner.conn)
+    → text ≡ floors_text (told_floors rows.place.me rows.place.n moment rows.book.now
+    (seated_content store.seats store.inner.mirror))
+IsPlacedText g rows store Status moment text = ⊥
+IsPlacedText g rows store Passes moment text = ⊥
+IsPlacedText g rows store Roster moment text = ⊥
 
 -- ---- over any store
 

@@ -9,6 +9,7 @@ mod laws;
 mod named;
 mod node_status;
 mod passes;
+mod placed;
 mod responder;
 mod source;
 mod text;
@@ -20,6 +21,7 @@ pub use laws::{
 pub use named::{NamedRows, floors_text, gates_text, roster_text};
 pub use node_status::{NodeInfo, version_of};
 pub use passes::PassList;
+pub use placed::PlacedRows;
 pub use responder::Responder;
 pub use source::ReportSource;
 pub use text::page_of_text;

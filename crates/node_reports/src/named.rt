@@ -1,4 +1,4 @@
-//! The reports of a node over a store by names.
+//! The reports of a node over a store that has its tokens by their names.
 
 ghost use Rattle.std.specs.Prelude.{◌≡◌, ◌≤◌, length, replicate, IfOk};
 ghost use Rattle.floors_file.specs.NamedWriting.{named_floors_text};
@@ -7,7 +7,7 @@ ghost use Rattle.oathd_roster.specs.Roster.{roster_text};
 ghost use Rattle.node_reports.specs.Reports.{telling_of};
 ghost use Rattle.oathd_database.specs.Gates.{gates_text};
 
-use crate::passes::PassList;
+use crate::passes::passes_of;
 use crate::source::ReportSource;
 use floor_sql::SqlStore;
 use floor_store::{FloorStore, Pass, StoreFault};
@@ -39,7 +39,7 @@ pub struct NamedRows<'r> {
 }
 
 /// Returns the fault of a store for the fault of a command that writes to a text in memory.
-fn store_fault_of(fault: Fault) -> StoreFault
+pub(crate) fn store_fault_of(fault: Fault) -> StoreFault
     ensures { (broken : StoreFault) → fault ≡ Fault.Store broken → result ≡ broken }
 {
     match fault {
@@ -167,10 +167,6 @@ impl<A: Alter + Drop> ReportSource<SeatedStore<SqlStore<A>>> for NamedRows<'_> {
         alloc: Global,
         node: &mut Node<'_, SeatedStore<SqlStore<A>>>,
     ) -> Result<Vec<Pass>, NodeFault> {
-        let mut list = PassList::new(alloc);
-        match node.read(&mut list) {
-            Ok(()) => Ok(list.passes()),
-            Err(fault) => Err(fault),
-        }
+        passes_of(alloc, node)
     }
 }

@@ -5,10 +5,12 @@ ghost use Rattle.sqlite.specs.Held.{state};
 ghost use Rattle.sqlite.specs.State.{HasCleanDisk};
 ghost use Rattle.floor_sql.specs.Held.{HasCommitted, sql_held};
 ghost use Rattle.floor_store.specs.Held.{Breaks, Puts};
+ghost use Rattle.oath_node.specs.Reading.{ReadsNode};
+ghost use Rattle.seated_store.specs.Seated.{seated_held};
 
 use floor_sql::SqlStore;
 use floor_store::{Pass, StoreFault};
-use oath_node::StoreReading;
+use oath_node::{Node, NodeFault, StoreReading};
 use seated_store::{BelowReading, SeatedStore};
 use sqlite::Alter;
 use std::alloc::Global;
@@ -75,5 +77,22 @@ impl<A: Alter> StoreReading<SqlStore<A>> for PassList {
 impl<A: Alter> StoreReading<SeatedStore<SqlStore<A>>> for PassList {
     fn read(&mut self, store: &mut SeatedStore<SqlStore<A>>) -> Result<(), StoreFault> {
         store.read_below(self)
+    }
+}
+
+/// Returns the committed passes of the store of a node, in the order of their commits. The store keeps its content.
+///
+/// # Errors
+/// Returns `Store` if the store fails, or the allocator refuses the memory. The node is stopped.
+pub(crate) fn passes_of<A: Alter + Drop>(
+    alloc: Global,
+    node: &mut Node<'_, SeatedStore<SqlStore<A>>>,
+) -> Result<Vec<Pass>, NodeFault>
+    ensures { ReadsNode (seated_held (sql_held A.Store)) node.old node.new result }
+{
+    let mut list = PassList::new(alloc);
+    match node.read(&mut list) {
+        Ok(()) => Ok(list.passes()),
+        Err(fault) => Err(fault),
     }
 }

@@ -1,5 +1,2 @@
-mod EndLemmas
-mod ServedLemmas
 pub mod StretchLemmas
 mod KeyLemmas
-mod BrokenLemmas

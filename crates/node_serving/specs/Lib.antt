@@ -1,9 +1,7 @@
-pub mod Broken
 pub mod Front
 pub mod Gate
 pub mod Log
 pub mod NodeKey
-pub mod Served
 pub mod Serving
 pub mod Setup
 pub mod SetupExamples

@@ -1,7 +1,6 @@
-//! The command `serve`: a node over a store and a socket, for the clients that its clients file names, with a log.
+//! The parts of the command `serve`: a node for the clients that its clients file names, with a log.
 //!
-//! [`serve_store`] opens the store of a users file and a database, and serves its node. [`serve_port`] serves a node that
-//! is open already, over any port. What is asked after each batch is an [`Attend`].
+//! [`serve_port`] serves a node that is open already, over any port. What is asked after each batch is an [`Attend`].
 #![tactic(auto)]
 
 mod attend;
@@ -15,13 +14,10 @@ mod stretch_laws;
 
 pub use attend::{Attend, Attended, Stop};
 pub use gate::{ClientLines, Front, front_of};
-pub use laws::{
-    ends_can_be_broken, fronts_can_be_broken, members_follow_their_file, served_can_be_broken,
-};
+pub use laws::{fronts_can_be_broken, members_follow_their_file};
 pub use node_key::{NodeKey, node_keys_tell, tag_key};
 pub use serve::{
-    KeptSocket, ServeLog, log_of, open_node, serve_node, serve_port, serve_store, socket_at,
-    start_of,
+    KeptSocket, ServeLog, log_of, open_node, serve_node, serve_port, socket_at, start_of,
 };
 pub use serving::Serving;
 pub use setup_laws::{lines_given_again_can_be_broken, setups_are_worked, setups_can_be_broken};

@@ -1,41 +1,33 @@
-//! The command `serve`: runs a node over a store and a socket.
+//! Serves a node that is open, over any port.
 
 ghost use Rattle.std.specs.Prelude.{◌≡◌, ◌<◌, ◌^◌, [], None, false, true, length, Result, Ok, IfErr, IfOk, IfSome, IsSome, OnOk};
 ghost use Rattle.std.specs.Io.KnownBytes.{Appends};
-ghost use Rattle.oath_node.specs.TurnServing.{Serves};
 ghost use Rattle.oath_node.specs.declared.serve_fault.ServeFault.{ServeFault};
 ghost use Rattle.oath_node.specs.declared.turns.Served.{Served};
 ghost use Rattle.gatekeeping.specs.Members.{nobody_heard};
 ghost use Rattle.gatekeeping.specs.Members.{nobody};
 ghost use Rattle.oath_node.specs.Calls.{IsOpened};
-ghost use Rattle.node_serving.specs.Served.{EndsServing, HasServed, IsServed};
 ghost use Rattle.oathd_database.specs.Fault.{IsOpenFault, serve_end};
 ghost use Rattle.floor_store.specs.Range.{IsCount};
 ghost use Rattle.node_serving.specs.Log.{first_lines, start_at};
-ghost use Rattle.node_serving.specs.Setup.{setup_behind};
 ghost use Rattle.node_serving.specs.Stretches.{ServesIn, counts_after};
 
 use crate::attend::{Attend, Attended};
-use crate::gate::{Front, front_of};
-use crate::node_key::tag_key;
-use crate::serving::Serving;
 use arrayvec::ArrayVec;
 use cluster_file::fingerprint;
 use datagram_port::Clock;
 use floor_store::FloorStore;
 use gatekeeping::{Gatekeeper, MAX_OTHERS, PLACES};
 use node_log::{LogPort, Member, Roster, Start, write_roster, write_start};
-use oath_node::{Never, Node, ServeFault, Served, run_turns_until};
-use oathd_database::{Database, Fault, open_store};
+use oath_node::{Node, ServeFault, Served, run_turns_until};
+use oathd_database::Fault;
 use otp_core::Settings;
-use sealed_port::SealedPort;
-use sqlite::Alter;
 use std::alloc::Global;
-use std::io::{self, Read, Write};
+use std::io::{self, Write};
 use std::net::{Net, SocketAddr, SocketAddrV4, UdpSocket};
 use std::time::{Clock as TimeSource, Duration};
 use token_file::Book;
-use udp_port::{SystemClock, UdpPort, client_number};
+use udp_port::{SystemClock, client_number};
 use vote_core::Place;
 use vote_wire::ClusterKey;
 
@@ -287,58 +279,6 @@ pub fn serve_port<S: FloorStore, P: Gatekeeper + Drop, N: TimeSource, W: Write, 
     }
 }
 
-/// Serves a node over a port for all turns, as [`serve_port`] does.
-fn serve_turns<S: FloorStore, P: Gatekeeper + Drop, N: TimeSource, W: Write>(
-    node: &mut Node<'_, S>,
-    port: P,
-    outside: &N,
-    turns: u64,
-    key: &ClusterKey,
-    log: Option<ServeLog>,
-    writer: &mut W,
-) -> Result<Served, Fault>
-    requires turns { turns < 2 ^ 54 }
-    requires fresh { IfSome (P.events port) (λ entries. entries ≡ []) }
-    ensures turns { (end : Result Served ServeFault) × (last : P)
-        × Serves S.held node.old node.new (P.events port) (P.events last) None None turns end
-        × (P.setup last ≡ P.setup port) × (result ≡ serve_end end) }
-    ensures unlogged { log ≡ None → writer.new ≡ writer.old }
-{
-    let mut until = Attended::new(Never);
-    serve_port(node, port, outside, turns, &mut until, key, log, writer)
-}
-
-/// Serves a node over a socket, as [`serve_node`] does, for the clients that `front` lets through, with a log if there
-/// is one. Without a log it writes nothing.
-fn serve_front<S: FloorStore, N: TimeSource, W: Write>(
-    node: &mut Node<'_, S>,
-    port: UdpPort<&N>,
-    outside: &N,
-    front: Front,
-    turns: u64,
-    key: &ClusterKey,
-    log: Option<ServeLog>,
-    writer: &mut W,
-) -> Result<Served, Fault>
-    requires turns { turns < 2 ^ 54 }
-    requires calls { port.calls.made ≡ [] }
-    requires plain { (port.skips_answers ≡ true) × (port.takes_loopback_alone ≡ false) }
-    ensures turns { IsServed S.held node.old node.new (setup_behind port.entry.members.items front) turns result }
-    ensures unlogged { log ≡ None → writer.new ≡ writer.old }
-{
-    match front {
-        Front::Anybody => serve_turns(node, port, outside, turns, key, log, writer),
-        Front::ThisMachine => {
-            let port = port.taking_loopback_alone();
-            serve_turns(node, port, outside, turns, key, log, writer)
-        }
-        Front::Gate(gate) => {
-            let port = SealedPort::new(port.under_gate(), SystemClock::new(outside), gate);
-            serve_turns(node, port, outside, turns, key, log, writer)
-        }
-    }
-}
-
 /// Returns the content of the first line of the log of the node at `place`, whose store has the boot `boot`.
 pub fn start_of(
     place: Place,
@@ -379,51 +319,4 @@ pub fn log_of(
         roster,
         members: other_members(place),
     })
-}
-
-/// Opens a node over its store in a new boot, binds a UDP socket to its address, and serves it for the given turns.
-///
-/// The store has the tokens of the users file. A turn is one receive of at most 200 milliseconds. A datagram from a
-/// member's address is that member's; a datagram from any other address is a client's. `serving` says which lines of
-/// clients the node takes. With a log, its lines go to the writer. A failed write ends the log, but not the node.
-/// Without a log nothing is written.
-///
-/// # Errors
-/// - Returns the errors of [`open_store`].
-/// - Returns the errors of [`open_node`].
-/// - Returns `Socket` if the socket cannot be bound.
-/// - Returns the errors of [`front_of`].
-/// - Returns the errors of [`serve_node`].
-pub fn serve_store<R: Read + Drop, S: Alter + Drop, D: Database<S>, N: Net + TimeSource, W: Write>(
-    alloc: Global,
-    outside: &N,
-    users: R,
-    serving: Serving<'_>,
-    database: D,
-    writer: &mut W,
-) -> Result<Served, Fault>
-    ensures served { IfOk result (λ served. IfSome (R.remaining users)
-        (HasServed S.Store D.finds serving.entry (Ok served))) }
-    ensures fault { IfErr result (λ fault. IfSome (R.remaining users)
-        (EndsServing S.Store D.finds serving.entry fault)) }
-    ensures unlogged { serving.entry.is_logged ≡ false → writer.new ≡ writer.old }
-{
-    let Serving {
-        settings,
-        place,
-        members,
-        key,
-        turns,
-        is_logged,
-        lines,
-    } = serving;
-    let (users, store) = open_store(alloc, users, settings, Some(place.me()), database)?;
-    let key = tag_key(alloc, key, &users.book)?;
-    let address = members[usize::from(place.me()) - 1];
-    let start = start_of(place, address, store.boot()?, &users.book, &key);
-    let mut node = open_node(alloc, &users.book, settings, place, &key, store)?;
-    let port = UdpPort::new(socket_at(outside, address)?, members, outside);
-    let front = front_of(alloc, place.me(), lines, outside)?;
-    let log = log_of(is_logged, start, None, place);
-    serve_front(&mut node, port, outside, front, turns, &key, log, writer)
 }

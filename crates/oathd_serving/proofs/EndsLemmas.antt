@@ -8,7 +8,7 @@ use Rattle.oath_node.specs.declared.turns.Served.{Served}
 use Rattle.cluster_file.specs.ClusterFile.{ClusterRecord, cluster_of}
 use Rattle.oathd_database.specs.declared.fault.Fault.TheVariants.{Memory, CannotWrite, NoClock, Users, Store, Socket}
 use Rattle.node_serving.specs.declared.serving.Serving.{Serving}
-use Rattle.named_serving.specs.Served.{EndsServingNamed, HasServedNamed}
+use Rattle.store_serving.specs.Served.{EndsServingNamed, HasServedNamed}
 use Rattle.oathd_roster.specs.declared.cluster.NamedCluster.{NamedCluster}
 use Rattle.oathd_roster.specs.declared.fault.RosterFault.{RosterFault}
 use Rattle.oathd_roster.specs.declared.fault.RosterFault.TheVariants.{Command, SameName, AnotherCluster, Full}

@@ -18,11 +18,11 @@ use Rattle.node_serving.specs.Serving.{IsAgain}
 use Rattle.node_serving.specs.declared.serving.Serving.{Serving}
 use Rattle.oathd_database.specs.Users.{IsImported}
 use Rattle.oathd_roster.specs.Enrolled.{IsServedText}
-use Rattle.named_serving.specs.Served.{EndsServingNamed, HasServedNamed}
+use Rattle.store_serving.specs.Served.{EndsServingNamed, HasServedNamed}
 use Rattle.oathd_roster.specs.Users.{IsUnnamed}
 use Rattle.oathd_roster.specs.declared.cluster.NamedCluster.{NamedCluster}
 use Rattle.oathd_roster.specs.declared.fault.RosterFault.{RosterFault}
-use Rattle.named_serving.proofs.AnswerLemmas.{last_answer}
+use Rattle.store_serving.proofs.AnswerLemmas.{last_answer}
 use Rattle.oathd_words.specs.declared.store_words.ClientWords.{ClientWords}
 use Rattle.oathd_words.specs.declared.store_words.ClusterWords.{ClusterWords}
 use Rattle.oathd_words.specs.declared.store_words.ClusterWords.TheVariants.{Named}

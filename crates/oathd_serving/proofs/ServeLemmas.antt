@@ -5,7 +5,8 @@ use Rattle.sqlite.specs.Store.{Ghosts}
 use Rattle.sqlite.specs.Held as sql
 use Rattle.otp_core.specs.Limits.{Limits}
 use Rattle.oath_node.specs.declared.turns.Served.{Served}
-use Rattle.node_serving.specs.Served.{EndsServing, HasServed, IsNotServed}
+use Rattle.store_serving.specs.Ends.{IsNotServed}
+use Rattle.store_serving.specs.Placed.{EndsServing, HasServed, never}
 use Rattle.oathd_database.specs.Users.{IsUnread}
 use Rattle.oathd_database.specs.declared.fault.Fault as database
 use Rattle.oathd_database.specs.declared.fault.Fault.TheVariants.{Memory, CannotWrite, NoClock, Users, Store, Socket}
@@ -47,7 +48,7 @@ module _ {S : Type 0} (g : Ghosts S) (finds : sql.Held S → Type 0) (IsAsked : 
 
   module _ (serving : Serving) (asked : IsAsked serving) where
     -- the node was served
-    pub served_so : (counts : Served) (users : List ℕ) → HasServed g finds serving (Ok counts) users → IsServedAsAsked g finds IsAsked
+    pub served_so : (counts : Served) (users : List ℕ) → HasServed g finds serving never (Ok counts) users → IsServedAsAsked g finds IsAsked
     served_so counts users h = record { serving = serving; asked = asked; users = users; counts = counts; served = h }
 
     -- the node ended with a fault

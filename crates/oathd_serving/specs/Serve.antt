@@ -17,7 +17,7 @@ use Rattle.oathd_words.specs.declared.store_words.ClusterWords.{ClusterWords}
 use Rattle.oathd_words.specs.declared.store_words.ClusterWords.TheVariants.{Given, Named}
 use Rattle.oathd_tasks.specs.Check.{IsKeyIn}
 use Rattle.oathd_tasks.specs.Clients.{HasClients}
-use Rattle.node_serving.specs.Served.{EndsServing, HasServed}
+use Rattle.store_serving.specs.Placed.{EndsServing, HasServed, never}
 use Rattle.node_serving.specs.Serving.{IsOfMember}
 use Rattle.oathd_database.specs.declared.fault.Fault as database
 use Rattle.oathd_database.specs.declared.fault.Fault.TheVariants.{Memory, CannotWrite, NoClock, Users, Store, Socket}
@@ -76,13 +76,14 @@ IsAskedFor cluster turns is_logged clients text serving =
 -- Databases are opened by a connection that shows what `finds` says. `IsAsked` holds for the parameters that were asked
 -- for.
 module _ {S : Type 0} (g : Ghosts S) (finds : sql.Held S → Type 0) (IsAsked : Serving → Type 0) where
-  -- A node was served with such parameters to the end of its turns, for the tokens of some users file.
+  -- A node was served with such parameters to the end of its turns, or until an operator ended them, for the tokens of
+  -- some users file.
   pub record IsServedAsAsked : Type 0 where
     pub serving : Serving
     pub asked : IsAsked serving
     pub users : List ℕ
     pub counts : Served
-    pub served : HasServed g finds serving (Ok counts) users
+    pub served : HasServed g finds serving never (Ok counts) users
 
   -- A node with such parameters ended with a fault: before its first turn, or with all that was served until then.
   pub record EndsAsAsked (fault : database.Fault) : Type 0 where

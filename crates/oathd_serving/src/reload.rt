@@ -14,7 +14,6 @@ use crate::serving::lines_of;
 use crate::shared::tell_shared_secret;
 use crate::watch::{Found, Stamp, Watch, stamp_of};
 use floor_store::StoreFault;
-use named_serving::serve_named_store;
 use node_serving::{KeptSocket, Serving};
 use oathd_roster::{NamedCluster, read_named_users};
 use oathd_site::{Fault, FilesBefore, NamesFault, Site, named_cluster, present_moment, users_text};
@@ -25,6 +24,7 @@ use sqlite::{FileFrom, FileStore, Start, Unknown};
 use sqlite_trees::store::Store;
 use std::alloc::Global;
 use std::io::Write;
+use store_serving::serve_named_store;
 use token_names::Salt;
 
 /// What a boot of the node begins with.

@@ -15,8 +15,7 @@ ghost use Rattle.oathd_site.specs.Fault.{IsOfTask};
 use crate::reload::reload;
 use crate::shared::tell_shared_secret;
 use log_writer::{LogWriter, SteadyWriter, SyslogWriter, UdpOutlet};
-use named_serving::serve_named_store;
-use node_serving::{ClientLines, KeptSocket, NodeKey, Serving, serve_store};
+use node_serving::{ClientLines, KeptSocket, NodeKey, Serving};
 use oath_node::Never;
 use oathd_roster::NamedCluster;
 use oathd_site::{Fault, Site, named_cluster, present_moment, users_text};
@@ -25,6 +24,7 @@ use oathd_words::{ClientWords, ClusterWords, LogWords};
 use sqlite::{FileFrom, FileStore, Start};
 use sqlite_trees::store::Store;
 use std::io::{self, Printer, Write};
+use store_serving::{serve_named_store, serve_store};
 
 /// A writer of a log to standard output or to a syslog.
 type NodeLog<'r> = LogWriter<Printer<'r, HostRuntime>, UdpOutlet<'r, HostRuntime>>;

@@ -11,3 +11,4 @@ pub mod Processes
 pub mod Runs
 pub mod Openings
 pub mod OrderedDevices
+mod PlacedRuns

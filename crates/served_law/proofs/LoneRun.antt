@@ -37,7 +37,7 @@ use Rattle.oathd_database.specs.Broken.{shows_any}
 use Rattle.oathd_database.specs.declared.fault.Fault.TheVariants.{NoClock}
 use Rattle.oathd_database.proofs.BrokenLemmas.{clean_is, stays}
 use Rattle.oathd_roster.specs.Opened.{HasOpenedNamed}
-use Rattle.named_serving.specs.Served.{HasServedNamed, IsServedOver}
+use Rattle.store_serving.specs.Served.{HasServedNamed, IsServedOver}
 use Rattle.book_law.specs.Uses.{first_store}
 use Rattle.order_law.specs.Interleavings.{AreOfMembers, steps_at}
 use Rattle.order_law.specs.Steps.{AreSteps, Closed}

@@ -23,7 +23,7 @@ use Rattle.vote_wire.specs.Key.{bare}
 use Rattle.node_serving.specs.Stretches.{FailsToAct, operator_acts}
 use Rattle.oathd_database.specs.declared.fault.Fault.{Fault}
 use Rattle.node_serving.specs.declared.serving.Serving.{Serving}
-use Rattle.named_serving.specs.Served.{HasServedNamed}
+use Rattle.store_serving.specs.Served.{HasServedNamed}
 use Rattle.oathd_roster.specs.declared.cluster.NamedCluster.{NamedCluster}
 use Rattle.book_law.specs.Lives.{Setting, Store, Terms, store_with_rows}
 use Rattle.book_law.specs.Stretches.{AreServed as AreServedOf, Stretch as StretchOf, token_cleared, tokens_cleared}

@@ -13,7 +13,7 @@ use Rattle.oath_node.specs.declared.turns.Served.{Served}
 use Rattle.vote_wire.specs.Key.{bare}
 use Rattle.oathd_database.specs.declared.fault.Fault.{Fault}
 use Rattle.node_serving.specs.declared.serving.Serving.{Serving}
-use Rattle.named_serving.specs.Served.{HasServedNamed}
+use Rattle.store_serving.specs.Served.{HasServedNamed}
 use Rattle.oathd_roster.specs.declared.cluster.NamedCluster.{NamedCluster}
 use Rattle.book_law.specs.Lives.{Setting, Store}
 use Rattle.book_law.specs.Uses.{AreUses, ServesInParts, StoreUse, Writes, store_after, written_store}

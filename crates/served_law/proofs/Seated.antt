@@ -28,7 +28,7 @@ use Rattle.oathd_database.specs.declared.fault.Fault.{Fault}
 use Rattle.node_serving.specs.declared.serving.Serving.{Serving}
 use Rattle.oathd_roster.specs.Enrolment.{enrolment_floors}
 use Rattle.oathd_roster.specs.Opened.{HasOpenedNamed}
-use Rattle.named_serving.specs.Served.{HasServedNamed}
+use Rattle.store_serving.specs.Served.{HasServedNamed}
 use Rattle.oathd_roster.specs.declared.cluster.NamedCluster.{NamedCluster}
 use Rattle.vote_wire.specs.Key.{bare}
 use Rattle.vote_core.specs.Books.{are_apart, is_number}

@@ -7,3 +7,4 @@ pub mod Examples
 pub mod RunExamples
 pub mod LoneRun
 pub mod Devices
+pub mod Placed

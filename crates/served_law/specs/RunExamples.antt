@@ -76,8 +76,8 @@ stores_of one two (suc zero) = one
 stores_of one two (suc (suc zero)) = two
 stores_of one two (suc (suc (suc node))) = Keeps []
 
--- Node 2's store gets a row with the floor 5 for the token 0. Node 1 loses its store, which is replaced at the boot. The
--- new one has a row for this token with the floor.
+-- Node 2's store gets a row with the floor 5 for the token 0. Node 1 loses its store, which is replaced at the boot.
+-- The new one has a row for this token with the floor.
 abbrev pub lost_stores : (U : Type 0) → ℕ → ℕ → ℕ → NamedStores U
 lost_stores U boot floor =
     stores_of (Replaces [] boot (0 ∷ []) (λ token. floor) (Keeps [])) (Keeps (WritesBy (Enrols 2 0 5) ∷ []))

@@ -18,7 +18,7 @@ use Rattle.vote_wire.specs.Key.{bare}
 use Rattle.node_serving.specs.Stretches.{unasked}
 use Rattle.oathd_database.specs.declared.fault.Fault.{Fault}
 use Rattle.node_serving.specs.declared.serving.Serving.{Serving}
-use Rattle.named_serving.specs.Served.{HasServedNamed}
+use Rattle.store_serving.specs.Served.{HasServedNamed}
 use Rattle.oathd_roster.specs.declared.cluster.NamedCluster.{NamedCluster}
 use Rattle.book_law.specs.Lives.{Action, Setting, Store, Terms, store_under, store_with_rows}
 use Rattle.book_law.specs.Uses.{AreUses, IsWriting, Part, ServesInParts, StoreUse, Writes, entries_in, first_store, store_after, written_store}

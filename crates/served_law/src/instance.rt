@@ -3,7 +3,7 @@
 ghost use Rattle.std.specs.Prelude.{◌≡◌, ℕ, [], Err};
 ghost use Rattle.book_law.specs.Lives.{accepted_in, answered_in};
 ghost use Rattle.book_law.specs.Uses.{first_store};
-ghost use Rattle.named_serving.specs.Served.{HasServedNamed};
+ghost use Rattle.store_serving.specs.Served.{HasServedNamed};
 ghost use Rattle.name_law.specs.Unforged.{IsSized};
 ghost use Rattle.node_serving.specs.Stretches.{unasked};
 ghost use Rattle.oathd_database.specs.Broken.{shows_any};

@@ -22,7 +22,7 @@ ghost use Rattle.node_serving.specs.Stretches.{unasked};
 ghost use Rattle.oathd_database.specs.declared.fault.Fault.{Fault};
 ghost use Rattle.node_serving.specs.declared.serving.Serving.{Serving};
 ghost use Rattle.oathd_roster.specs.Opened.{HasOpenedNamed};
-ghost use Rattle.named_serving.specs.Served.{HasServedNamed};
+ghost use Rattle.store_serving.specs.Served.{HasServedNamed};
 ghost use Rattle.oathd_roster.specs.declared.cluster.NamedCluster.{NamedCluster};
 ghost use Rattle.book_law.specs.Lives.{Setting, Store, Terms, accepted_in, floor_in};
 ghost use Rattle.book_law.specs.Seeds.{AreGreatest, HaveSeedsOnce, UsesGreatest};

@@ -1,13 +1,15 @@
-//! The laws that join the stores that `oathd` opens by names to the stores of histories.
+//! The laws that join the stores that `oathd` opens, by names or by place, to the stores of histories.
 //!
 //! In a history, all nodes have the same numbers for tokens: the places of their names in one list. A store that is
 //! opened by names has a row for each name that it ever enrolled. The laws say which store of a history it is, and that
-//! a node that is served over it is a member of that history. `book_law` and `name_law` have the histories.
+//! a node that is served over it is a member of that history. By place the number of a token is its place in the users
+//! file. `book_law` and `name_law` have the histories.
 #![tactic(auto)]
 
 mod instance;
 mod laws;
 mod order_laws;
+mod placed;
 mod run_laws;
 mod store_laws;
 mod worked;
@@ -22,6 +24,7 @@ pub use laws::{
 pub use order_laws::{
     clearings_can_be_broken, orders_of_runs_can_be_broken, runs_in_order_can_be_broken,
 };
+pub use placed::{placed_runs_can_be_broken, served_places_are_processes};
 pub use run_laws::{
     commands_can_be_broken, devices_can_be_broken, named_uses_can_be_broken, runs_can_be_broken,
     stretches_are_numbered,

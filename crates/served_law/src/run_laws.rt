@@ -21,7 +21,7 @@ ghost use Rattle.oath_node.specs.declared.turns.Served.{Served};
 ghost use Rattle.node_serving.specs.Stretches.{AreServed, FailsToAct, Stretch, operator_acts, unasked};
 ghost use Rattle.oathd_database.specs.declared.fault.Fault.{Fault};
 ghost use Rattle.node_serving.specs.declared.serving.Serving.{Serving};
-ghost use Rattle.named_serving.specs.Served.{HasServedNamed};
+ghost use Rattle.store_serving.specs.Served.{HasServedNamed};
 ghost use Rattle.oathd_roster.specs.declared.cluster.NamedCluster.{NamedCluster};
 ghost use Rattle.book_law.specs.Lives.{Enrols, Setting, Store, Terms};
 ghost use Rattle.book_law.specs.Seeds.{HaveSeedsOnce};

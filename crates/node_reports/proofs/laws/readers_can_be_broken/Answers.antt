@@ -1,4 +1,4 @@
-use Rattle.std.proofs.Common.{ap, refl}
+use Rattle.std.proofs.Common.{refl}
 use Rattle.node_reports.proofs.laws.readers_can_be_broken.Goals as goal
 
 pub returns-clause-unlocks : goal.returns-clause-unlocks

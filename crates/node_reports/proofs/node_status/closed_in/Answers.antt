@@ -1,4 +1,4 @@
-use Rattle.std.proofs.Common.{◌≡◌, ◌∙◌, ◌<◌, ap, arith, Bool, length, ℕ, sym, subst}
+use Rattle.std.proofs.Common.{◌≡◌, ◌∙◌, ◌<◌, arith, Bool, length, subst}
 use Rattle.std.specs.Prelude.{IfSome, slice_get}
 use Rattle.floor_store.specs.Records.{RowRecord}
 use Rattle.node_reports.specs.NodeStatus.{is_closed}

@@ -1,4 +1,4 @@
-use Rattle.std.proofs.Common.{◌≡◌, ◌∷◌, ◌∙◌, ℕ, List, sym, ap}
+use Rattle.std.proofs.Common.{◌∷◌, ◌∙◌, ℕ, List, sym, ap}
 use Rattle.node_reports.specs.Text.{lines_of}
 use Rattle.node_reports.proofs.TextLemmas.{is_cut, lines_cut}
 use Rattle.node_reports.proofs.text.first_line.Goals as goal

@@ -1,5 +1,5 @@
 -- Lists of other lengths differ, and each other condition is a field.
-use Rattle.std.proofs.Common.{◌≡◌, [], ◌∷◌, length, inl, inr, refl, ap, arith}
+use Rattle.std.proofs.Common.{◌≡◌, length, inl, inr, refl, ap, arith}
 use Rattle.served_law.proofs.order_laws.runs_in_order_can_be_broken.Goals as goal
 
 pub returns-clause-turns_clear_none : goal.returns-clause-turns_clear_none

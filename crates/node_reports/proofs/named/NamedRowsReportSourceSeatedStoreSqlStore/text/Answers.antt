@@ -1,7 +1,7 @@
 -- The node's floors file is of the rows of its store.
-use Rattle.std.proofs.Common.{◌≡◌, ℕ, List, sym, subst}
+use Rattle.std.proofs.Common.{◌≡◌, List, sym, subst}
 use Rattle.std.specs.Prelude.{replicate}
-use Rattle.floor_sql.specs.Held.{SqlHeld, sql_held}
+use Rattle.floor_sql.specs.Held.{sql_held}
 use Rattle.floors_file.specs.NamedWriting.{named_floors_text}
 use Rattle.named_floors.specs.Told.{TellingRecord, telling_value, told_named}
 use Rattle.operator_text.specs.declared.request.Report.{Report}

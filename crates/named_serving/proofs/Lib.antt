@@ -1,5 +1,0 @@
-mod NamedLemmas
-mod FloorsLemmas
-mod TellingLemmas
-mod ServedLemmas
-pub mod AnswerLemmas

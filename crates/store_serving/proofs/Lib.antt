@@ -1,0 +1,7 @@
+mod NamedLemmas
+mod FloorsLemmas
+mod TellingLemmas
+mod ServedLemmas
+mod PlacedLemmas
+pub mod AnswerLemmas
+mod BrokenLemmas
