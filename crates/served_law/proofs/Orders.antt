@@ -73,7 +73,7 @@ module _ {S : Type 0} (held : S → Held) (setting : Setting) (node : ℕ) (term
         | inr has ↦ record { tokens = tokens_cleared terms stretches (token_cleared terms number ∷ []); tokens_are = inr refl; has = has }
       ]
 
-  run_in_order : {entries : List PortEvent} {turns : ℕ} {answers : ℕ → Bool → Bool → Type 0} {result : Result Served ServeFault} (run : RunsIn view old new entries turns answers result) → StaysClean view run → (left : Content) → (view new.store).leaves left
+  pub run_in_order : {entries : List PortEvent} {turns : ℕ} {answers : ℕ → Bool → Bool → Type 0} {result : Result Served ServeFault} (run : RunsIn view old new entries turns answers result) → StaysClean view run → (left : Content) → (view new.store).leaves left
       → IsInOrder view run setting node terms port found entries left
   run_in_order {entries} {turns} {answers} run stays left leaves =
       let begins = run_starts_clean view run stays in

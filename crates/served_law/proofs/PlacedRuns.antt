@@ -20,8 +20,9 @@ use Rattle.oathd_database.specs.declared.fault.Fault.{Fault}
 use Rattle.store_serving.specs.Placed.{HasServed, placed}
 use Rattle.book_law.specs.Lives.{Setting, do_fit, has_row, place_in, places_of, row_of, row_or_first}
 use Rattle.book_law.specs.Uses.{IsSeatedMember}
-use Rattle.served_law.specs.Placed.{IsPlacedUse, IsSoundPlaced, placed_store, placed_terms}
+use Rattle.served_law.specs.Placed.{IsPlacedInOrder, IsPlacedUse, IsSoundPlaced, placed_store, placed_terms}
 use Rattle.served_law.specs.Runs.{view_of}
+use Rattle.served_law.proofs.Orders.{run_in_order}
 use Rattle.served_law.proofs.Processes.{run_is_use}
 
 -- ---- own seats
@@ -108,5 +109,11 @@ module _ {S : Type 0} (g : Ghosts S) (finds : sql.Held S → Type 0) (serving : 
   pub run_is_placed_use : IsSoundPlaced run setting → (left : Content) → (view_of g run.over.last.store).leaves left → IsPlacedUse run setting left
   run_is_placed_use sound left leaves =
       run_is_use (sql_held g) setting serving.place.me (placed_terms serving run.import.book) (tag_key serving.key run.import.book) (placed_store run.found.mirror)
+      (placed (length run.import.book) run.found) run.over.first run.over.last (placed_member sound.members) run.over.in_boot sound.boot run.over.served_is.serves sound.stays
+      left leaves
+
+  pub run_is_placed_in_order : IsSoundPlaced run setting → (left : Content) → (view_of g run.over.last.store).leaves left → IsPlacedInOrder run setting left
+  run_is_placed_in_order sound left leaves =
+      run_in_order (sql_held g) setting serving.place.me (placed_terms serving run.import.book) (tag_key serving.key run.import.book) (placed_store run.found.mirror)
       (placed (length run.import.book) run.found) run.over.first run.over.last (placed_member sound.members) run.over.in_boot sound.boot run.over.served_is.serves sound.stays
       left leaves

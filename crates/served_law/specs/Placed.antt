@@ -13,6 +13,7 @@ use Rattle.node_serving.specs.declared.serving.Serving.{Serving}
 use Rattle.oathd_database.specs.declared.fault.Fault.{Fault}
 use Rattle.store_serving.specs.Placed.{HasServed}
 use Rattle.book_law.specs.Lives.{Setting, Store, Terms}
+use Rattle.served_law.specs.Orders.{IsInOrder}
 use Rattle.served_law.specs.Processes.{IsUse, StaysClean}
 use Rattle.served_law.specs.Runs.{view_of}
 
@@ -42,4 +43,10 @@ module _ {S : Type 0} {g : Ghosts S} {finds : sql.Held S → Type 0} {serving : 
   abbrev pub IsPlacedUse : Setting → Content → Type 0
   IsPlacedUse setting left =
       IsUse (view_of g) run.over.served_is.serves setting serving.place.me (placed_terms serving run.import.book)
+      (tag_key serving.key run.import.book) (placed_store run.found.mirror) run.over.served_is.events left
+
+  -- the run has made steps over the store that it found, and its port recorded all that it received and offered
+  abbrev pub IsPlacedInOrder : Setting → Content → Type 0
+  IsPlacedInOrder setting left =
+      IsInOrder (view_of g) run.over.served_is.serves setting serving.place.me (placed_terms serving run.import.book)
       (tag_key serving.key run.import.book) (placed_store run.found.mirror) run.over.served_is.events left

@@ -24,7 +24,9 @@ pub use laws::{
 pub use order_laws::{
     clearings_can_be_broken, orders_of_runs_can_be_broken, runs_in_order_can_be_broken,
 };
-pub use placed::{placed_runs_can_be_broken, served_places_are_processes};
+pub use placed::{
+    placed_runs_can_be_broken, served_places_are_processes, served_places_have_steps,
+};
 pub use run_laws::{
     commands_can_be_broken, devices_can_be_broken, named_uses_can_be_broken, runs_can_be_broken,
     stretches_are_numbered,

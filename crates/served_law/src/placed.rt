@@ -12,7 +12,7 @@ ghost use Rattle.node_serving.specs.declared.serving.Serving.{Serving};
 ghost use Rattle.oathd_database.specs.declared.fault.Fault.{Fault};
 ghost use Rattle.store_serving.specs.Placed.{HasServed, never};
 ghost use Rattle.book_law.specs.Lives.{Setting};
-ghost use Rattle.served_law.specs.Placed.{IsPlacedUse, IsSoundPlaced, placed_store, placed_terms};
+ghost use Rattle.served_law.specs.Placed.{IsPlacedInOrder, IsPlacedUse, IsSoundPlaced, placed_store, placed_terms};
 ghost use Rattle.served_law.specs.Processes.{StaysClean};
 ghost use Rattle.served_law.specs.Runs.{view_of};
 
@@ -33,6 +33,23 @@ pub fn served_places_are_processes<S: Alter + Drop, D: Database<S>>()
         (left : Content) (run : HasServed S.Store D.finds serving unasked result text)
         → IsSoundPlaced run setting → (view_of S.Store run.over.last.store).leaves left
         → IsPlacedUse run setting left }
+{}
+
+/// Orders: the whole run of a command that serves a node by place has made steps, and its port recorded the entries in
+/// their order.
+///
+/// So each order of the members' steps in which each vote that is heard was said before keeps all promises
+/// (`causal_interleavings_are_safe` of `order_law`).
+pub fn served_places_have_steps<S: Alter + Drop, D: Database<S>>()
+    ensures served { (serving : Serving) (result : Result Served Fault) (text : List ℕ) (setting : Setting)
+        (left : Content) (run : HasServed S.Store D.finds serving never result text)
+        → IsSoundPlaced run setting → (view_of S.Store run.over.last.store).leaves left
+        → IsPlacedInOrder run setting left }
+    // The same if the command ended with a fault.
+    ensures failed { (serving : Serving) (result : Result Served Fault) (text : List ℕ) (setting : Setting)
+        (left : Content) (run : HasServed S.Store D.finds serving unasked result text)
+        → IsSoundPlaced run setting → (view_of S.Store run.over.last.store).leaves left
+        → IsPlacedInOrder run setting left }
 {}
 
 /// Worked cases and counterexamples: the terms and the store of a process by place, and each condition of its run.
