@@ -5,6 +5,7 @@ pub mod Seated
 pub mod Raised
 pub mod Enrolled
 pub mod Devices
+pub mod Stores
 pub mod Orders
 pub mod LoneRun
 pub mod Processes
@@ -12,3 +13,4 @@ pub mod Runs
 pub mod Openings
 pub mod OrderedDevices
 mod PlacedRuns
+pub mod LonePlaced

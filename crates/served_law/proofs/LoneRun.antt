@@ -6,6 +6,7 @@ use Rattle.std.specs.Net.Addr.{ipv4_bits}
 use Rattle.sqlite.specs.Held.{state}
 use Rattle.sqlite.specs.State.{HasCleanDisk}
 use Rattle.sqlite.specs.Tree.{Trees}
+use Rattle.sqlite.specs.Store.{Ghosts}
 use Rattle.otp_core.specs.Limits.{default_limits}
 use Rattle.floor_store.specs.Content.{Content}
 use Rattle.floor_store.specs.Held.{IsSettled}
@@ -17,6 +18,7 @@ use Rattle.floor_sql.specs.Stored.{Holds}
 use Rattle.floor_sql.specs.declared.schema.Format.TheVariants.{Named}
 use Rattle.floor_sql.proofs.BrokenLemmas.{own_row_has}
 use Rattle.floor_sql.proofs.ContentLemmas.{one_content}
+use Rattle.floor_sql.specs.declared.schema.Format.{Format}
 use Rattle.roster_sql.specs.Roster.{HoldsNamed}
 use Rattle.roster_sql.specs.declared.entry.Entry.{Entry}
 use Rattle.roster_sql.proofs.ExampleLemmas.{bond_at}
@@ -33,7 +35,7 @@ use Rattle.bundle_port.specs.Runs.{Waits}
 use Rattle.floor_port.specs.Runs.{Came}
 use Rattle.node_serving.specs.Stretches.{ServesIn, operator_acts, unasked}
 use Rattle.node_reports.specs.Responder.{ResponderAnswers}
-use Rattle.oathd_database.specs.Broken.{shows_any}
+use Rattle.oathd_database.specs.Broken.{shows_any, disk_of}
 use Rattle.oathd_database.specs.declared.fault.Fault.TheVariants.{NoClock}
 use Rattle.oathd_database.proofs.BrokenLemmas.{clean_is, stays}
 use Rattle.oathd_roster.specs.Opened.{HasOpenedNamed}
@@ -43,19 +45,82 @@ use Rattle.order_law.specs.Interleavings.{AreOfMembers, steps_at}
 use Rattle.order_law.specs.Steps.{AreSteps, Closed}
 use Rattle.order_law.proofs.Examples.{only_member}
 use Rattle.order_law.proofs.Stores.{KeepStore, never_replaced}
-use Rattle.served_law.specs.LoneRun.{lone, lone_body, lone_bond, lone_client, lone_cluster, lone_disk, lone_events, lone_items, lone_node, lone_run, lone_serving, lone_steps, lone_store, lone_stores, lone_tables, lone_text}
-use Rattle.served_law.specs.Orders.{AreStepsOfRun, HaveHappened, HaveStepsOf, IsOrderOf}
-use Rattle.served_law.specs.Runs.{AreAllNamedStores, IsRunOver, IsSound, view_of}
+use Rattle.served_law.specs.LoneRun.{lone, lone_body, lone_bond, lone_client, lone_cluster, lone_disk, lone_events, lone_items, lone_node, lone_run, lone_serving, lone_steps, lone_store, lone_stores, lone_tables, lone_text, node_over, store_over}
+use Rattle.served_law.specs.Orders.{HaveHappened, HaveStepsOf, IsOrderOf}
+use Rattle.served_law.specs.Runs.{AreAllNamedStores, AreStepsOfRun, IsRunOver, IsSound, view_of}
 use Rattle.served_law.specs.Seated.{store_by_names}
 use Rattle.served_law.proofs.Orders.{steps_have_orders}
 
--- ---- the database
+-- ---- a disk that can be written once, with tables of a format
 
-trees : ℕ → Trees
-trees disk = (lone_tables (4 + disk)).trees
+module _ (format : Format) (trees : ℕ → Trees) (holds : (disk : ℕ) → Holds format (trees disk) (small_content (4 + disk)) []) where
+  abbrev pub disk_with : Ghosts ℕ
+  disk_with = disk_of true trees
 
-clean : (disk : ℕ) → HasCleanDisk (state lone_disk (lone_store disk).inner.conn)
-clean disk = clean_is (λ (d : ℕ). (lone_tables (4 + d)).trees) (lone_store disk).inner.conn
+  pub clean_with : (disk : ℕ) → HasCleanDisk (state disk_with (store_over format disk).inner.conn)
+  clean_with disk = clean_is trees (store_over format disk).inner.conn
+
+  settled_with : (disk : ℕ) → IsSettled (sql_held disk_with (store_over format disk).inner)
+  settled_with disk other left = sym (one_content format left.format (trees disk) (small_content (4 + disk)) other [] left.passes (holds disk)
+      (subst (λ (t : Trees). Holds left.format t other left.passes) left.left left.holds))
+
+  pub sound_with : (disk : ℕ) → IsSoundStore disk_with (store_over format disk).inner
+  sound_with disk = record { works = refl; idle = refl; settled = settled_with disk }
+
+  seated_settled : (disk : ℕ) → IsSettled (view_of disk_with (store_over format disk))
+  seated_settled disk other left = left.2 ∙ ap (seated_content []) (settled_with disk left.0 left.1)
+
+  pub in_boot_with : IsOpened (view_of disk_with) (store_over format 0) (node_over format)
+  in_boot_with = record {
+    state = λ is_clean. refl;
+    runs = refl;
+    raises = record {
+      writes = record {
+        makes = record {
+          ok = λ is_clean. refl;
+          err = λ is_clean. tt;
+          stays = λ broken. absurd cc;
+          count = omega arith;
+          clean = λ is_clean. clean_with 0;
+          tokens = refl;
+        };
+        left = λ other left. inr (seated_settled 1 other left);
+        settled = λ is_clean. seated_settled 1;
+        intact = (refl, refl);
+      };
+      breaks = tt;
+      spent = λ e. absurd cc;
+      last = λ e. absurd cc;
+    };
+  }
+
+  pub serves_with : Serves (view_of disk_with) (node_over format) (node_over format) (Some []) (Some lone_events) None None 1 (Err Clock)
+  serves_with = record {
+    batches = (FromClient lone_client lone_text None ∷ []) ∷ [];
+    formed = (record { before = []; last = FromClient lone_client lone_text None; is = refl; goes_on = tt }, tt);
+    moments = tt;
+    receives = refl;
+    most = omega arith;
+    all = tt;
+    exact = λ is_clean. (record { state = refl; entries = refl }, refl);
+    settled = λ is_clean was. was;
+    same = record { book = refl; limits = refl; key = refl; place = refl };
+  }
+
+  unfoldable pub serves_in_with : ServesIn (view_of disk_with) (operator_acts (view_of disk_with)) (node_over format) (node_over format) (Some []) (Some lone_events) None None 1 (ResponderAnswers unasked) (Err Clock)
+  serves_in_with = record {
+    stretches = [];
+    from = node_over format;
+    from_first = Some [];
+    from_asked = None;
+    left = 1;
+    before = (refl, refl, refl, refl);
+    end = Err Clock;
+    last = inl (record { most = 1; within = omega arith; ends = tt; serves = serves_with });
+    counts = refl;
+  }
+
+-- ---- the database of a store by names
 
 holds : (disk : ℕ) → HoldsNamed (lone_tables (4 + disk)) (small_content (4 + disk)) [] [] lone_bond
 holds disk = record {
@@ -77,15 +142,24 @@ only_content disk content passes former held =
     let same : small_content (4 + disk) ≡ content = one_content Named Named (lone_tables (4 + disk)).trees (small_content (4 + disk)) content [] passes (holds disk).holds held.holds in
     (same, no_entries former (held.counted ∙ ap (λ (c : Content). length c.rows) (sym same)))
 
-settled : (disk : ℕ) → IsSettled (sql_held lone_disk (lone_store disk).inner)
-settled disk other left = sym (one_content Named left.format (lone_tables (4 + disk)).trees (small_content (4 + disk)) other [] left.passes (holds disk).holds
-    (subst (λ (t : Trees). Holds left.format t other left.passes) left.left left.holds))
+abbrev named_trees : ℕ → Trees
+named_trees disk = (lone_tables (4 + disk)).trees
+
+abbrev named_holds : (disk : ℕ) → Holds Named (named_trees disk) (small_content (4 + disk)) []
+named_holds disk = (holds disk).holds
+
+clean : (disk : ℕ) → HasCleanDisk (state lone_disk (lone_store disk).inner.conn)
+clean disk = clean_with Named named_trees named_holds disk
 
 sound : (disk : ℕ) → IsSoundStore lone_disk (lone_store disk).inner
-sound disk = record { works = refl; idle = refl; settled = settled disk }
+sound disk = sound_with Named named_trees named_holds disk
 
-seated_settled : (disk : ℕ) → IsSettled (view_of lone_disk (lone_store disk))
-seated_settled disk other left = left.2 ∙ ap (seated_content []) (settled disk left.0 left.1)
+in_boot : IsOpened (view_of lone_disk) (lone_store 0) lone_node
+in_boot = in_boot_with Named named_trees named_holds
+
+serves_in : ServesIn (view_of lone_disk) (operator_acts (view_of lone_disk)) lone_node lone_node (Some []) (Some lone_events) None None 1 (ResponderAnswers unasked) (Err Clock)
+unfolding serves_in_with
+serves_in = serves_in_with Named named_trees named_holds
 
 -- ---- the opening
 
@@ -117,58 +191,6 @@ opened = record {
   };
   each = refl;
   names_apart = λ i j d before low. absurd (omega (arith, before, low));
-}
-
-in_boot : IsOpened (view_of lone_disk) (lone_store 0) lone_node
-in_boot = record {
-  state = λ is_clean. refl;
-  runs = refl;
-  raises = record {
-    writes = record {
-      makes = record {
-        ok = λ is_clean. refl;
-        err = λ is_clean. tt;
-        stays = λ broken. absurd cc;
-        count = omega arith;
-        clean = λ is_clean. clean 0;
-        tokens = refl;
-      };
-      left = λ other left. inr (seated_settled 1 other left);
-      settled = λ is_clean. seated_settled 1;
-      intact = (refl, refl);
-    };
-    breaks = tt;
-    spent = λ e. absurd cc;
-    last = λ e. absurd cc;
-  };
-}
-
--- ---- the turn
-
-serves : Serves (view_of lone_disk) lone_node lone_node (Some []) (Some lone_events) None None 1 (Err Clock)
-serves = record {
-  batches = (FromClient lone_client lone_text None ∷ []) ∷ [];
-  formed = (record { before = []; last = FromClient lone_client lone_text None; is = refl; goes_on = tt }, tt);
-  moments = tt;
-  receives = refl;
-  most = omega arith;
-  all = tt;
-  exact = λ is_clean. (record { state = refl; entries = refl }, refl);
-  settled = λ is_clean was. was;
-  same = record { book = refl; limits = refl; key = refl; place = refl };
-}
-
-serves_in : ServesIn (view_of lone_disk) (operator_acts (view_of lone_disk)) lone_node lone_node (Some []) (Some lone_events) None None 1 (ResponderAnswers unasked) (Err Clock)
-serves_in = record {
-  stretches = [];
-  from = lone_node;
-  from_first = Some [];
-  from_asked = None;
-  left = 1;
-  before = (refl, refl, refl, refl);
-  end = Err Clock;
-  last = inl (record { most = 1; within = omega arith; ends = tt; serves = serves });
-  counts = refl;
 }
 
 over : IsServedOver (view_of lone_disk) lone_serving [] [] (lone_store 0) (ResponderAnswers unasked) (Err NoClock)
@@ -276,7 +298,7 @@ order = record {
   steps = only_member (λ node. HaveHappened lone_disk shows_any (λ (until : ℕ). unasked) lone node [] (first_store lone node) (lone_stores node) (all_stores node) (all_steps node) (steps_at node lone_items)) (record { later = []; all_are = refl });
   replaced = never_replaced lone lone_items of_members (only_member (λ node. KeepStore (steps_at node lone_items)) (tt, (tt, (tt, tt))));
   starts = λ i envelope at. absurd cc;
-  unforged = (tt, omega arith, (tt, tt, (tt, tt, tt)));
+  caused = (tt, omega arith, (tt, tt, (tt, tt, tt)));
 }
   where
     of_members : AreOfMembers lone lone_items

@@ -22,8 +22,9 @@ use Rattle.book_law.specs.Seeds.{AreGreatest, HaveSeedsOnce, UsesGreatest}
 use Rattle.book_law.specs.Uses.{ServesInParts, StoreUse, store_after, written_store}
 use Rattle.served_law.specs.Devices.{HaveDevices, HaveOneSeed}
 use Rattle.served_law.specs.Enrolled.{opening_uses}
-use Rattle.served_law.specs.Runs.{AreNamedUses, AreOf, AreOfRun, IsRunOver, NamedRun, NamedUse, RunsBy, WritesBy, store_found, store_left, terms_in}
+use Rattle.served_law.specs.Runs.{AreNamedUses, AreOf, AreOfRun, IsRunOver, NamedRun, NamedUse, store_found, store_left, terms_in}
 use Rattle.served_law.specs.Seated.{AreKnown, HasKnownRows, row_names, store_by_names, tokens_of}
+use Rattle.served_law.specs.Uses.{RunsBy, WritesBy}
 use Rattle.served_law.proofs.Devices.{greatest_append, opened_greatest, opening_greatest}
 use Rattle.served_law.proofs.Rows.{after_apart, one_roster}
 use Rattle.served_law.proofs.Seated.{book_names}

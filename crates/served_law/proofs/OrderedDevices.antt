@@ -14,8 +14,9 @@ use Rattle.order_law.specs.Steps.{Closed, Does, Ends, Gets, Loses, Place, Starts
 use Rattle.order_law.proofs.Devices.{first_greatest_steps, greatest_steps_append, no_start, process_greatest}
 use Rattle.order_law.proofs.Stores.{may_lose}
 use Rattle.served_law.specs.Devices.{HaveDevices, HaveDevicesInStores, HaveOneSeed}
-use Rattle.served_law.specs.Orders.{AreFirstOf, AreStepsOf, AreStepsOfRun, HasStepsOf, HaveHappened, HaveStepsOf, IsOrderOf, enrolling, opening_steps}
-use Rattle.served_law.specs.Runs.{AreAllNamedStores, AreNamedStores, AreNamedUses, IsRunOver, Keeps, NamedRun, NamedStores, NamedUse, Replaces, RunsBy, WritesBy, store_found, store_left, terms_in}
+use Rattle.served_law.specs.Orders.{AreStepsOf, HasStepsOf, HaveHappened, HaveStepsOf, IsOrderOf}
+use Rattle.served_law.specs.Runs.{AreAllNamedStores, AreNamedStores, AreNamedUses, AreStepsOfRun, IsRunOver, NamedRun, NamedStores, NamedUse, enrolling, opening_steps, store_found, store_left, terms_in}
+use Rattle.served_law.specs.Uses.{AreFirstOf, Keeps, Replaces, RunsBy, WritesBy}
 use Rattle.served_law.proofs.Openings.{greatest_opened}
 use Rattle.served_law.proofs.Orders.{first_keep_store}
 

@@ -25,20 +25,22 @@ use Rattle.oathd_database.specs.declared.fault.Fault.{Fault}
 use Rattle.node_serving.specs.declared.serving.Serving.{Serving}
 use Rattle.store_serving.specs.Served.{HasServedNamed}
 use Rattle.oathd_roster.specs.declared.cluster.NamedCluster.{NamedCluster}
-use Rattle.book_law.specs.Lives.{Setting, Store, Terms, store_with_rows}
+use Rattle.book_law.specs.Lives.{Setting, Store, Terms}
 use Rattle.book_law.specs.Stretches.{AreServed as AreServedOf, Stretch as StretchOf, token_cleared, tokens_cleared}
-use Rattle.book_law.specs.Uses.{AreUses, IsSeatedMember, StoreUse, first_store, store_after, written_store}
+use Rattle.book_law.specs.Uses.{AreUses, IsSeatedMember, StoreUse, first_store, store_after}
 use Rattle.named_order_law.specs.Bytes.{IsUnforgedInterleaving}
 use Rattle.order_law.specs.Interleavings.{AreOfMembers, AreReplaced, Item, steps_at}
-use Rattle.order_law.specs.Steps.{AreSteps, Closed, Does, Ends, HasSteps, Loses, Place, Starts, Step, place_after, place_in_end}
+use Rattle.order_law.specs.Steps.{AreSteps, Closed, Ends, HasSteps, Starts, Step, place_in_end}
 use Rattle.order_law.proofs.Batches.{end_append, steps_append}
 use Rattle.order_law.proofs.Stretches.{act_fails, turns_end}
-use Rattle.order_law.proofs.Stores.{KeepStore, first_are, first_keep, keep_append, may_lose, never_replaced, process_keeps}
+use Rattle.order_law.proofs.Stores.{KeepStore, keep_append, process_keeps}
 use Rattle.served_law.specs.Enrolled.{enrolments, opening_uses}
-use Rattle.served_law.specs.Orders.{AreFirstOf, AreStepsOf, AreStepsOfRun, HasNamedSteps, HasStepsOf, HaveHappened, HaveStepsOf, IsInOrder, IsOrderOf, IsRunInOrder, MayClear, enrolling, opening_steps}
+use Rattle.served_law.specs.Orders.{HasNamedSteps, HasStepsOf, HaveStepsOf, IsInOrder, IsOrderOf, IsRunInOrder, MayClear}
 use Rattle.served_law.specs.Processes.{RunsIn, StaysClean, number_unlocked, stretches_of}
-use Rattle.served_law.specs.Runs.{AreAllNamedStores, AreNamedStores, AreNamedUses, IsRunOver, IsSound, Keeps, NamedRun, NamedStores, NamedUse, Replaces, RunsBy, WritesBy, answers_of, store_found, store_left, terms_in, view_of}
+use Rattle.served_law.specs.Runs.{AreAllNamedStores, AreNamedUses, AreStepsOfRun, IsRunOver, IsSound, NamedRun, NamedStores, NamedUse, answers_of, enrolling, named_runs, opening_steps, store_found, store_left, terms_in, view_of}
 use Rattle.served_law.specs.Seated.{store_by_names}
+use Rattle.served_law.specs.Uses.{AreFirstOf, Keeps}
+use Rattle.served_law.proofs.Stores.{HasRunSteps, all_steps, first_keep_of, none_replaced, steps_in_order, use_steps}
 use Rattle.served_law.proofs.Enrolled.{enrolled_opened}
 use Rattle.served_law.proofs.Processes.{acts_as, are_served, run_starts_clean}
 use Rattle.served_law.proofs.Seated.{seated_member, translator_of_opened}
@@ -134,13 +136,7 @@ opens_keep node names former (put ∷ puts) new floors = (tt, opens_keep node na
 -- ---- the runs over one store
 
 module _ {S U : Type 0} (g : Ghosts S) (finds : sql.Held S → Type 0) (answers : U → ℕ → Bool → Bool → Type 0) (setting : Setting) (names : List (List ℕ)) (sized : setting.tokens ≡ length names) where
-  record RunSteps (node : ℕ) (store : Store) (run : NamedRun U) (is : IsRunOver g finds answers setting node names store run) : Type 0 where
-    steps : List Step
-    are_of : AreStepsOfRun g finds answers setting node names store run is steps
-    are_steps : AreSteps setting node (Closed store) steps
-    after : place_in_end setting node (Closed store) steps ≡ Closed (store_left g finds answers setting node names store run is)
-
-  run_steps : (node : ℕ) (store : Store) (run : NamedRun U) (is : IsRunOver g finds answers setting node names store run) → RunSteps node store run is
+  run_steps : (node : ℕ) (store : Store) (run : NamedRun U) (is : IsRunOver g finds answers setting node names store run) → HasRunSteps (named_runs g finds answers setting names) node store run is
   run_steps node store run is =
       let served = is.served in
       let me = run.serving.place.me in
@@ -173,87 +169,34 @@ module _ {S U : Type 0} (g : Ghosts S) (finds : sql.Held S → Type 0) (answers 
       }
 
   pub named_has_steps : (node : ℕ) (store : Store) (named : List (NamedUse U)) (are : AreNamedUses g finds answers setting node names store named) → HasStepsOf g finds answers setting node names store named are
-  named_has_steps node store [] are = record { steps = []; are_of = refl; are_steps = tt }
-  named_has_steps node store (RunsBy run ∷ later) are =
-      let first = run_steps node store run are.0 in
-      let rest = named_has_steps node (store_left g finds answers setting node names store run are.0) later are.1 in
-      record {
-        steps = first.steps ++ rest.steps;
-        are_of = (first.steps, rest.steps, refl, first.are_of, rest.are_of);
-        are_steps = steps_append setting node (Closed store) first.steps rest.steps first.are_steps (subst (λ p. AreSteps setting node p rest.steps) (sym first.after) rest.are_steps);
-      }
-  named_has_steps node store (WritesBy action ∷ later) are =
-      let rest = named_has_steps node (written_store setting action store) later are.1 in
-      record { steps = Does action ∷ rest.steps; are_of = (rest.steps, refl, rest.are_of); are_steps = (are.0, rest.are_steps) }
-
-  have_steps : (node : ℕ) (store : Store) (stores : NamedStores U) (are : AreNamedStores g finds answers setting node names store stores) → HaveStepsOf g finds answers setting node names store stores are
-  have_steps node store (Keeps named) are = named_has_steps node store named are
-  have_steps node store (Replaces named boot given floor later) are = (named_has_steps node store named are.0, have_steps node (store_with_rows boot given floor) later are.1)
+  named_has_steps node store named are = use_steps (named_runs g finds answers setting names) (λ node store run is. run_steps node store run is) node store named are
 
 -- ---- the steps that have happened
 
 module _ {S U : Type 0} (g : Ghosts S) (finds : sql.Held S → Type 0) (answers : U → ℕ → Bool → Bool → Type 0) (setting : Setting) (names : List (List ℕ)) where
-  run_keeps : (node : ℕ) (store : Store) (run : NamedRun U) (is : IsRunOver g finds answers setting node names store run) (steps : List Step) → AreStepsOfRun g finds answers setting node names store run is steps → KeepStore steps
+  pub run_keeps : (node : ℕ) (store : Store) (run : NamedRun U) (is : IsRunOver g finds answers setting node names store run) (steps : List Step) → AreStepsOfRun g finds answers setting node names store run is steps → KeepStore steps
   run_keeps node store run is steps of =
       subst KeepStore (sym of.are) (keep_append (opening_steps node names of.former of.puts of.new of.floors) (Starts (terms_in is.served names) bare ∷ of.body ++ Ends of.kept ∷ []) (opens_keep node names of.former of.puts of.new of.floors)
       (tt, keep_append of.body (Ends of.kept ∷ []) (process_keeps of.body of.of_one) (tt, tt)))
 
-  uses_keep : (node : ℕ) (store : Store) (named : List (NamedUse U)) (are : AreNamedUses g finds answers setting node names store named) (steps : List Step) → AreStepsOf g finds answers setting node names store named are steps → KeepStore steps
-  uses_keep node store [] are steps of = subst KeepStore (sym of) tt
-  uses_keep node store (RunsBy run ∷ later) are steps of =
-      subst KeepStore (sym of.2) (keep_append of.0 of.1 (run_keeps node store run are.0 of.0 of.3) (uses_keep node (store_left g finds answers setting node names store run are.0) later are.1 of.1 of.4))
-  uses_keep node store (WritesBy action ∷ later) are steps of = subst KeepStore (sym of.1) (tt, uses_keep node (written_store setting action store) later are.1 of.0 of.2)
-
-  -- the first steps of a store's uses
-  first_steps : (node : ℕ) (store : Store) (named : List (NamedUse U)) (are : AreNamedUses g finds answers setting node names store named) (has : HasStepsOf g finds answers setting node names store named are) (steps : List Step)
-      → AreFirstOf steps has.steps → AreSteps setting node (Closed store) steps
-  first_steps node store named are has steps f = first_are setting node (Closed store) steps f.later (subst (AreSteps setting node (Closed store)) f.all_are has.are_steps)
-
   pub first_keep_store : (node : ℕ) (store : Store) (named : List (NamedUse U)) (are : AreNamedUses g finds answers setting node names store named) (has : HasStepsOf g finds answers setting node names store named are) (steps : List Step)
       → AreFirstOf steps has.steps → KeepStore steps
-  first_keep_store node store named are has steps f = first_keep steps f.later (subst KeepStore f.all_are (uses_keep node store named are has.steps has.are_of))
+  first_keep_store node store named are has steps f = first_keep_of (named_runs g finds answers setting names) run_keeps node store named are has steps f
 
-  pub happened : (node : ℕ) (store : Store) (stores : NamedStores U) (are : AreNamedStores g finds answers setting node names store stores) (have : HaveStepsOf g finds answers setting node names store stores are) (steps : List Step)
-      → HaveHappened g finds answers setting node names store stores are have steps → AreSteps setting node (Closed store) steps
-  happened node store (Keeps named) are have steps f = first_steps node store named are have steps f
-  happened node store (Replaces named boot given floor later) are have steps (inl f) = first_steps node store named are.0 have.0 steps f
-  happened node store (Replaces named boot given floor later) are have steps (inr lost) =
-      let first = lost.0 in
-      let may = may_lose setting node store first (first_keep_store node store named are.0 have.0 first lost.3) in
-      let at : Place = place_in_end setting node (Closed store) first in
-      let gone : Place = place_after setting node at Loses in
-      let new : Store = store_with_rows boot given floor in
-      let rest : AreSteps setting node gone lost.1 = elim lost.4 [
-        | inl none ↦ subst (AreSteps setting node gone) (sym none) tt
-        | inr got ↦ subst (AreSteps setting node gone) (sym got.1)
-            (may.gets boot given floor, subst (λ p. AreSteps setting node p got.0) (sym (may.has boot given floor)) (happened node new later are.1 have.1 got.0 got.2))
-      ] in
-      subst (AreSteps setting node (Closed store)) (sym lost.2)
-      (steps_append setting node (Closed store) first (Loses ∷ lost.1) (first_steps node store named are.0 have.0 first lost.3) (may.loses, rest))
-
-module _ {S U : Type 0} (g : Ghosts S) (finds : sql.Held S → Type 0) (answers : U → ℕ → Bool → Bool → Type 0) (setting : Setting) (names : List (List ℕ)) where
   abbrev pub steps_have_orders : (stores : ℕ → NamedStores U) (are : AreAllNamedStores g finds answers setting names stores) → ((node : ℕ) → HaveStepsOf g finds answers setting node names (first_store setting node) (stores node) (are node))
       → HasNamedSteps g finds answers setting names stores are
-  steps_have_orders stores are have = record {
-    steps = have;
-    interleavings = λ items members same replaced. record {
-      members = members;
-      steps = λ node member. happened g finds answers setting names node (first_store setting node) (stores node) (are node) (have node) (steps_at node items) (same node member);
-      replaced = replaced;
-    };
-  }
+  steps_have_orders stores are have = steps_in_order (named_runs g finds answers setting names) run_keeps stores are have
 
   pub all_named_steps : (stores : ℕ → NamedStores U) (are : AreAllNamedStores g finds answers setting names stores) → setting.tokens ≡ length names → HasNamedSteps g finds answers setting names stores are
-  all_named_steps stores are sized = steps_have_orders stores are (λ node. have_steps g finds answers setting names sized node (first_store setting node) (stores node) (are node))
+  all_named_steps stores are sized = all_steps (named_runs g finds answers setting names) run_keeps (λ node store run is. run_steps g finds answers setting names sized node store run is) stores are
 
   -- without a lost store, no rule of replacements is asked for
   pub kept_stores : (named : ℕ → List (NamedUse U)) (are : AreAllNamedStores g finds answers setting names (λ node. Keeps (named node))) (has : HasNamedSteps g finds answers setting names (λ node. Keeps (named node)) are) (items : List Item)
       → AreOfMembers setting items → ((node : ℕ) → is_member setting.n node ≡ true → AreFirstOf (steps_at node items) (has.steps node).steps) → AreReplaced setting items
-  kept_stores named are has items members same =
-      never_replaced setting items members (λ node member. first_keep_store g finds answers setting names node (first_store setting node) (named node) (are node) (has.steps node) (steps_at node items) (same node member))
+  kept_stores named are has items members same = none_replaced (named_runs g finds answers setting names) run_keeps named are has items members same
 
 -- ---- bytes
 
 pub unforged : {S U : Type 0} (g : Ghosts S) (finds : sql.Held S → Type 0) (answers : U → ℕ → Bool → Bool → Type 0) (setting : Setting) (names : List (List ℕ)) (stores : ℕ → NamedStores U) (are : AreAllNamedStores g finds answers setting names stores)
     (items : List Item) → IsOrderOf g finds answers setting names stores are items → IsUnforgedInterleaving names setting items
-unforged g finds answers setting names stores are items h = record { is = h.has.interleavings items h.members h.steps h.replaced; starts = h.starts; unforged = h.unforged }
+unforged g finds answers setting names stores are items h = record { is = h.has.interleavings items h.members h.steps h.replaced; starts = h.starts; unforged = h.caused }

@@ -1,5 +1,5 @@
--- A run by place is one use of its store.
-use Rattle.std.proofs.Common.{◌≡◌, ◌<◌, ◌≤◌, ℕ, suc, zero, ◌+◌, ◌==◌, ◌&&◌, Bool, true, false, not, List, ◌∷◌, length, Option, Some, inl, inr, refl, sym, ap, ◌∙◌, subst, arith}
+-- A run by place is one use of its store, and all runs by place are steps.
+use Rattle.std.proofs.Common.{◌≡◌, ◌<◌, ◌≤◌, ℕ, suc, zero, ◌+◌, ◌==◌, ◌&&◌, Bool, true, false, not, List, [], ◌∷◌, ◌++◌, length, Option, Some, inl, inr, refl, sym, ap, ◌∙◌, subst, arith}
 use Rattle.std.specs.Prelude.{Result}
 use Rattle.std.specs.List.{list_all, range_with_len}
 use Rattle.std.proofs.lemmas.Bool.{eq-eqb}
@@ -14,14 +14,20 @@ use Rattle.seat_law.specs.Seats.{seat_name}
 use Rattle.seat_law.proofs.Relation.{number_lacks, number_there, option_cases}
 use Rattle.token_file.specs.Credential.{Credential}
 use Rattle.vote_core.specs.Books.{are_apart, is_number, number_of}
+use Rattle.vote_core.specs.Schedule.{is_member}
 use Rattle.node_serving.specs.NodeKey.{tag_key}
 use Rattle.node_serving.specs.declared.serving.Serving.{Serving}
 use Rattle.oathd_database.specs.declared.fault.Fault.{Fault}
 use Rattle.store_serving.specs.Placed.{HasServed, placed}
-use Rattle.book_law.specs.Lives.{Setting, do_fit, has_row, place_in, places_of, row_of, row_or_first}
-use Rattle.book_law.specs.Uses.{IsSeatedMember}
-use Rattle.served_law.specs.Placed.{IsPlacedInOrder, IsPlacedUse, IsSoundPlaced, placed_store, placed_terms}
+use Rattle.book_law.specs.Lives.{Setting, Store, do_fit, has_row, place_in, places_of, row_of, row_or_first, store_under}
+use Rattle.book_law.specs.Uses.{IsSeatedMember, first_store}
+use Rattle.order_law.specs.Interleavings.{AreOfMembers, AreReplaced, IsCausal, Item, steps_at}
+use Rattle.order_law.specs.Steps.{AreSteps, Closed, Ends, Starts, Step, place_in_end}
+use Rattle.order_law.proofs.Stores.{KeepStore, keep_append, process_keeps}
+use Rattle.served_law.specs.Placed.{AreStepsOfPlaced, IsPlacedInOrder, IsPlacedOrder, IsPlacedRunOver, IsPlacedUse, IsSoundPlaced, PlacedRun, placed_answers, placed_runs, placed_store, placed_terms}
 use Rattle.served_law.specs.Runs.{view_of}
+use Rattle.served_law.specs.Uses.{AreAllStores, AreFirstOf, AreStoreUses, HasAllSteps, HasUseSteps, HaveStoreSteps, Keeps, Stores, Use}
+use Rattle.served_law.proofs.Stores.{HasRunSteps, all_steps, none_replaced, order_causal, steps_in_order, use_steps}
 use Rattle.served_law.proofs.Orders.{run_in_order}
 use Rattle.served_law.proofs.Processes.{run_is_use}
 
@@ -117,3 +123,45 @@ module _ {S : Type 0} (g : Ghosts S) (finds : sql.Held S → Type 0) (serving : 
       run_in_order (sql_held g) setting serving.place.me (placed_terms serving run.import.book) (tag_key serving.key run.import.book) (placed_store run.found.mirror)
       (placed (length run.import.book) run.found) run.over.first run.over.last (placed_member sound.members) run.over.in_boot sound.boot run.over.served_is.serves sound.stays
       left leaves
+
+-- ---- all runs
+
+module _ {S : Type 0} (g : Ghosts S) (finds : sql.Held S → Type 0) (setting : Setting) where
+  placed_run_steps : (node : ℕ) (store : Store) (run : PlacedRun) (is : IsPlacedRunOver g finds setting node store run) → HasRunSteps (placed_runs g finds setting) node store run is
+  placed_run_steps node store run is =
+      let served = is.served in
+      let me = run.serving.place.me in
+      let terms = placed_terms run.serving served.import.book in
+      let found = placed_store served.found.mirror in
+      let one = run_is_placed_in_order g finds run.serving (placed_answers run.result) run.result run.text setting served is.sound run.left is.leaves in
+      let steps : List Step = Starts terms (tag_key run.serving.key served.import.book) ∷ one.has.steps ++ Ends one.has.kept ∷ [] in
+      let ends : place_in_end setting node (Closed found) steps ≡ Closed (store_under terms.seats run.left found) =
+      ap (λ n. place_in_end setting n (Closed found) steps) (sym is.of_node) ∙ one.has.ends in
+      record {
+        steps = steps;
+        are_of = record { in_order = one; are = refl };
+        are_steps = subst (λ (s : Store). AreSteps setting node (Closed s) steps) is.holds (subst (λ (n : ℕ). AreSteps setting n (Closed found) steps) is.of_node one.has.are);
+        after = subst (λ (s : Store). place_in_end setting node (Closed s) steps ≡ Closed (store_under terms.seats run.left s)) is.holds ends;
+      }
+
+  pub placed_run_keeps : (node : ℕ) (store : Store) (run : PlacedRun) (is : IsPlacedRunOver g finds setting node store run) (steps : List Step) → AreStepsOfPlaced g finds setting node store run is steps → KeepStore steps
+  placed_run_keeps node store run is steps of =
+      let has = of.in_order.has in
+      subst KeepStore (sym of.are) (tt, keep_append has.steps (Ends has.kept ∷ []) (process_keeps has.steps has.of_one) (tt, tt))
+
+  pub placed_use_steps : (node : ℕ) (store : Store) (uses : List (Use PlacedRun)) (are : AreStoreUses (placed_runs g finds setting) node store uses) → HasUseSteps (placed_runs g finds setting) node store uses are
+  placed_use_steps node store uses are = use_steps (placed_runs g finds setting) placed_run_steps node store uses are
+
+  abbrev pub placed_in_order : (stores : ℕ → Stores PlacedRun) (are : AreAllStores (placed_runs g finds setting) stores) → ((node : ℕ) → HaveStoreSteps (placed_runs g finds setting) node (first_store setting node) (stores node) (are node))
+      → HasAllSteps (placed_runs g finds setting) stores are
+  placed_in_order stores are have = steps_in_order (placed_runs g finds setting) placed_run_keeps stores are have
+
+  pub all_placed_steps : (stores : ℕ → Stores PlacedRun) (are : AreAllStores (placed_runs g finds setting) stores) → HasAllSteps (placed_runs g finds setting) stores are
+  all_placed_steps stores are = all_steps (placed_runs g finds setting) placed_run_keeps placed_run_steps stores are
+
+  pub kept_places : (uses : ℕ → List (Use PlacedRun)) (are : AreAllStores (placed_runs g finds setting) (λ node. Keeps (uses node))) (has : HasAllSteps (placed_runs g finds setting) (λ node. Keeps (uses node)) are) (items : List Item)
+      → AreOfMembers setting items → ((node : ℕ) → is_member setting.n node ≡ true → AreFirstOf (steps_at node items) (has.steps node).steps) → AreReplaced setting items
+  kept_places uses are has items members same = none_replaced (placed_runs g finds setting) placed_run_keeps uses are has items members same
+
+  pub places_causal : (stores : ℕ → Stores PlacedRun) (are : AreAllStores (placed_runs g finds setting) stores) (items : List Item) → IsPlacedOrder g finds setting stores are items → IsCausal setting items
+  places_causal stores are items h = order_causal (placed_runs g finds setting) stores are items h

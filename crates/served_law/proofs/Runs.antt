@@ -19,8 +19,9 @@ use Rattle.book_law.specs.Lives.{Setting, Store}
 use Rattle.book_law.specs.Uses.{AreUses, ServesInParts, StoreUse, Writes, store_after, written_store}
 use Rattle.served_law.specs.Enrolled.{opening_uses}
 use Rattle.served_law.specs.Processes.{IsUse}
-use Rattle.served_law.specs.Runs.{AreNamedUses, AreOfRun, HasUsesOf, IsOneUse, IsRunOver, IsSound, NamedRun, NamedUse, RunsBy, WritesBy, answers_of, store_found, store_left, terms_in, view_of}
+use Rattle.served_law.specs.Runs.{AreNamedUses, AreOfRun, HasUsesOf, IsOneUse, IsRunOver, IsSound, NamedRun, NamedUse, answers_of, store_found, store_left, terms_in, view_of}
 use Rattle.served_law.specs.Seated.{store_by_names}
+use Rattle.served_law.specs.Uses.{RunsBy, WritesBy}
 use Rattle.served_law.proofs.Enrolled.{enrolled_opened}
 use Rattle.served_law.proofs.Processes.{run_is_use, run_starts_clean}
 use Rattle.served_law.proofs.Seated.{seated_member, translator_of_opened}

@@ -6,8 +6,9 @@ use Rattle.roster_sql.specs.declared.entry.Entry.{Entry}
 use Rattle.book_law.specs.Lives.{Setting, Store, store_with_rows}
 use Rattle.book_law.specs.Seeds.{HaveSeedsOnce}
 use Rattle.book_law.specs.Uses.{written_store}
-use Rattle.served_law.specs.Runs.{AreNamedStores, AreNamedUses, Keeps, NamedStores, NamedUse, Replaces, RunsBy, WritesBy, store_left, terms_in}
+use Rattle.served_law.specs.Runs.{AreNamedStores, AreNamedUses, NamedStores, NamedUse, store_left, terms_in}
 use Rattle.served_law.specs.Seated.{token_of}
+use Rattle.served_law.specs.Uses.{Keeps, Replaces, RunsBy, WritesBy}
 
 -- rows whose tokens are of one device have one seed
 abbrev pub HaveOneSeed : (ℕ → ℕ) → List (List ℕ) → List Entry → Type 0

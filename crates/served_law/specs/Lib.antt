@@ -1,5 +1,6 @@
 pub mod Seated
 pub mod Enrolled
+pub mod Uses
 pub mod Orders
 pub mod Processes
 pub mod Runs

@@ -1,5 +1,6 @@
--- A run of a command that serves a node alone, by the names of a users file without a token. It finds a store at boot
--- 4. In its one turn a byte comes from a client, and the clock tells no time. The command ends with this fault.
+-- A run of a command that serves a node alone, for a users file without a token, by names and by place. It finds a
+-- store at boot 4. In its one turn a byte comes from a client, and the clock tells no time. The command ends with this
+-- fault.
 use Rattle.std.specs.Prelude.{ℕ, zero, suc, ◌+◌, true, false, List, [], ◌∷◌, ◌++◌, None, Err, codes, map, refl}
 use Rattle.std.proofs.Math.Dec.{lit≤}
 use Rattle.sqlite.specs.Effect.{Database}
@@ -9,6 +10,7 @@ use Rattle.floor_sql.specs.Broken.{small_content}
 use Rattle.floor_sql.specs.Held.{SqlHeld}
 use Rattle.floor_sql.specs.Schema.{schema_of}
 use Rattle.floor_sql.specs.Stored.{version_row}
+use Rattle.floor_sql.specs.declared.schema.Format.{Format}
 use Rattle.floor_sql.specs.declared.schema.Format.TheVariants.{Named}
 use Rattle.roster_sql.specs.Examples.{small_bond, store_of}
 use Rattle.roster_sql.specs.Roster.{BondRecord}
@@ -31,8 +33,10 @@ use Rattle.book_law.specs.Lives.{Setting, Terms}
 use Rattle.order_law.specs.Examples.{at}
 use Rattle.order_law.specs.Interleavings.{Item}
 use Rattle.order_law.specs.Steps.{Ends, Hears, Starts, Step}
-use Rattle.served_law.specs.Runs.{Keeps, NamedRun, NamedStores, RunsBy}
+use Rattle.served_law.specs.Placed.{PlacedRun}
+use Rattle.served_law.specs.Runs.{NamedRun, NamedStores}
 use Rattle.served_law.specs.Seated.{served_terms}
+use Rattle.served_law.specs.Uses.{Keeps, RunsBy, Stores}
 
 -- ---- the node and its database
 
@@ -52,11 +56,11 @@ lone_tables boot = store_of (version_row 3 1 0 boot) [] [] [] lone_bond
 abbrev pub lone_disk : Ghosts ℕ
 lone_disk = disk_of true (λ disk. (lone_tables (4 + disk)).trees)
 
--- its store before the write (0) or after it (1)
-abbrev pub lone_store : ℕ → SeatedRecord (SqlHeld ℕ)
-lone_store disk = record {
+-- its store before the write (0) or after it (1), in tables of a format
+abbrev pub store_over : Format → ℕ → SeatedRecord (SqlHeld ℕ)
+store_over format disk = record {
   inner = record {
-    conn = conn_of (schema_of Named) disk;
+    conn = conn_of (schema_of format) disk;
     mirror = small_content (4 + disk);
     staged = [];
     passes = 0;
@@ -65,6 +69,10 @@ lone_store disk = record {
   seats = [];
   is_unusable = false;
 }
+
+-- the same by names
+abbrev pub lone_store : ℕ → SeatedRecord (SqlHeld ℕ)
+lone_store disk = store_over Named disk
 
 -- the only member, which listens at 127.0.0.1 with port 1 and is served for one turn
 abbrev pub lone_serving : Serving
@@ -84,9 +92,9 @@ lone_serving = record {
 }
 
 -- the node after it opened the store
-abbrev pub lone_node : Hosted (SeatedRecord (SqlHeld ℕ))
-lone_node = record {
-  store = lone_store 1;
+abbrev pub node_over : Format → Hosted (SeatedRecord (SqlHeld ℕ))
+node_over format = record {
+  store = store_over format 1;
   book = [];
   limits = default_limits;
   key = bare;
@@ -95,6 +103,10 @@ lone_node = record {
   answers = [];
   running = true;
 }
+
+-- the same by names
+abbrev pub lone_node : Hosted (SeatedRecord (SqlHeld ℕ))
+lone_node = node_over Named
 
 -- ---- the run
 
@@ -123,6 +135,10 @@ lone_run = record {
   left = small_content 5;
 }
 
+-- the run of the command by place
+abbrev pub lone_placed_run : PlacedRun
+lone_placed_run = record { serving = lone_serving; result = Err NoClock; text = []; left = small_content 5 }
+
 -- ---- the run in a history
 
 -- a setting of one member whose first store has boot 4, without a token
@@ -130,10 +146,18 @@ abbrev pub lone : Setting
 lone = record { n = 1; tokens = 0; boots = 4 ∷ []; old = [] }
 
 -- node 1 made the run, and other nodes made none
+abbrev pub stores_with : {R : Type 0} → R → ℕ → Stores R
+stores_with run zero = Keeps []
+stores_with run (suc zero) = Keeps (RunsBy run ∷ [])
+stores_with run (suc (suc node)) = Keeps []
+
+-- the same by names
 abbrev pub lone_stores : ℕ → NamedStores ℕ
-lone_stores zero = Keeps []
-lone_stores (suc zero) = Keeps (RunsBy lone_run ∷ [])
-lone_stores (suc (suc node)) = Keeps []
+lone_stores = stores_with lone_run
+
+-- the same by place
+abbrev pub lone_placed_stores : ℕ → Stores PlacedRun
+lone_placed_stores = stores_with lone_placed_run
 
 -- the terms of its process
 abbrev pub lone_terms : Terms

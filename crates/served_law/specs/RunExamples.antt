@@ -1,4 +1,4 @@
--- Small stretches and uses of stores by names. No contract cites them.
+-- Small stretches and uses of stores. No contract cites them.
 use Rattle.std.specs.Prelude.{ℕ, zero, suc, List, [], ◌∷◌, ◌++◌, Option, Some}
 use Rattle.floor_store.specs.Broken.{SmallStore}
 use Rattle.oath_node.specs.Broken.{small_node}
@@ -10,7 +10,8 @@ use Rattle.book_law.specs.Uses.{StoreUse, Writes}
 use Rattle.order_law.specs.Examples.{at}
 use Rattle.order_law.specs.Interleavings.{Item}
 use Rattle.order_law.specs.Steps.{Does, Gets, Loses, Step}
-use Rattle.served_law.specs.Runs.{Keeps, NamedStores, NamedUse, Replaces, WritesBy}
+use Rattle.served_law.specs.Runs.{NamedRun, NamedStores, NamedUse}
+use Rattle.served_law.specs.Uses.{Keeps, Replaces, Stores, Use, WritesBy}
 
 -- a stretch of one turn that began with the node, and stood at a small one before the act after it
 abbrev pub stretch_from : Hosted SmallStore → Stretch SmallStore
@@ -24,8 +25,12 @@ stretch_from node = record {
 }
 
 -- a command of node 1 that gives its store a row with the floor 5 for the token 0, and one that unlocks the token
+abbrev pub commands_of_node : (R : Type 0) → List (Use R)
+commands_of_node R = WritesBy (Enrols 1 0 5) ∷ WritesBy (Unlocks 1 0) ∷ []
+
+-- the same among runs by names
 abbrev pub two_commands : (U : Type 0) → List (NamedUse U)
-two_commands U = WritesBy (Enrols 1 0 5) ∷ WritesBy (Unlocks 1 0) ∷ []
+two_commands U = commands_of_node (NamedRun U)
 
 -- the same as uses of a history
 abbrev pub two_writes : List StoreUse
@@ -70,7 +75,7 @@ raises_next = Does (Raises 1 0 7)
 -- ---- three members
 
 -- the stores of node 1 and of node 2, while the others keep theirs without a use
-abbrev pub stores_of : {U : Type 0} → NamedStores U → NamedStores U → ℕ → NamedStores U
+abbrev pub stores_of : {R : Type 0} → Stores R → Stores R → ℕ → Stores R
 stores_of one two zero = Keeps []
 stores_of one two (suc zero) = one
 stores_of one two (suc (suc zero)) = two
@@ -78,9 +83,13 @@ stores_of one two (suc (suc (suc node))) = Keeps []
 
 -- Node 2's store gets a row with the floor 5 for the token 0. Node 1 loses its store, which is replaced at the boot.
 -- The new one has a row for this token with the floor.
-abbrev pub lost_stores : (U : Type 0) → ℕ → ℕ → ℕ → NamedStores U
-lost_stores U boot floor =
+abbrev pub stores_with_a_loss : (R : Type 0) → ℕ → ℕ → ℕ → Stores R
+stores_with_a_loss R boot floor =
     stores_of (Replaces [] boot (0 ∷ []) (λ token. floor) (Keeps [])) (Keeps (WritesBy (Enrols 2 0 5) ∷ []))
+
+-- the same among runs by names
+abbrev pub lost_stores : (U : Type 0) → ℕ → ℕ → ℕ → NamedStores U
+lost_stores U boot floor = stores_with_a_loss (NamedRun U) boot floor
 
 -- one order of these
 abbrev pub lost_items : ℕ → ℕ → List Item

@@ -1,5 +1,5 @@
--- The runs of commands that serve nodes by names, as uses of their stores in a history.
-use Rattle.std.specs.Prelude.{◌≡◌, ℕ, Bool, List, [], ◌∷◌, ◌++◌, Option, Some, None, Result}
+-- The runs of commands that serve nodes by names, as uses of their stores in a history and as steps.
+use Rattle.std.specs.Prelude.{◌≡◌, ℕ, Bool, List, [], ◌∷◌, ◌++◌, Option, Some, None, Result, slice_index_or}
 use Rattle.sqlite.specs.Store.{Ghosts}
 use Rattle.sqlite.specs.Held as sql
 use Rattle.datagram_port.specs.Port.{PortEvent}
@@ -11,21 +11,25 @@ use Rattle.floor_sql.specs.Held.{SqlHeld, sql_held}
 use Rattle.floor_sql.specs.declared.put.Put.{Put}
 use Rattle.roster_sql.specs.Roster.{BondRecord, HoldsNamed}
 use Rattle.roster_sql.specs.declared.entry.Entry.{Entry}
+use Rattle.named_store.specs.Floors.{no_entry}
 use Rattle.seated_store.specs.Seated.{SeatedRecord, seated_held}
 use Rattle.named_port.specs.Runs.{handed_events}
 use Rattle.oath_node.specs.declared.turns.Served.{Served}
 use Rattle.vote_wire.specs.Key.{bare}
+use Rattle.oath_node.specs.Machine.{NodeEvent}
 use Rattle.node_serving.specs.Stretches.{unasked}
 use Rattle.oathd_database.specs.declared.fault.Fault.{Fault}
 use Rattle.node_serving.specs.declared.serving.Serving.{Serving}
 use Rattle.store_serving.specs.Served.{HasServedNamed}
 use Rattle.oathd_roster.specs.declared.cluster.NamedCluster.{NamedCluster}
-use Rattle.book_law.specs.Lives.{Action, Setting, Store, Terms, store_under, store_with_rows}
-use Rattle.book_law.specs.Uses.{AreUses, IsWriting, Part, ServesInParts, StoreUse, Writes, entries_in, first_store, store_after, written_store}
+use Rattle.book_law.specs.Lives.{Enrols, Raises, Setting, Store, Terms, store_under}
+use Rattle.book_law.specs.Uses.{AreUses, Part, ServesInParts, StoreUse, Writes, entries_in, store_after, written_store}
 use Rattle.name_law.specs.Ports.{first_translator}
+use Rattle.order_law.specs.Steps.{AreOfProcess, Closed, Does, Ends, Starts, Step, entries_of_steps, place_in_end}
 use Rattle.served_law.specs.Enrolled.{opening_uses}
 use Rattle.served_law.specs.Processes.{IsUse, StaysClean}
-use Rattle.served_law.specs.Seated.{HasKnownRows, served_terms, store_by_names}
+use Rattle.served_law.specs.Seated.{HasKnownRows, served_terms, store_by_names, token_of}
+use Rattle.served_law.specs.Uses.{AreAllStores, AreMemberStores, AreStoreUses, RunKind, RunsBy, Stores, Use, WritesBy}
 
 -- the view of a store by names
 abbrev pub view_of : {S : Type 0} → Ghosts S → SeatedRecord (SqlHeld S) → Held
@@ -64,7 +68,7 @@ module _ {S : Type 0} {g : Ghosts S} {finds : sql.Held S → Type 0} {cluster : 
       IsUse (view_of g) run.over.served_is.serves.serves setting serving.place.me (terms_in names) bare
       (store_found names rows) (entries_of names) left
 
--- ---- All runs over one store
+-- ---- Runs and other uses
 
 -- A run of a command, the rows of its store, and what a stop left of its tokens. `until` answered whether its turns
 -- end, unless the command ended with a fault.
@@ -83,19 +87,35 @@ abbrev pub answers_of : {U : Type 0} → (U → ℕ → Bool → Bool → Type 0
 answers_of answers None = unasked
 answers_of answers (Some until) = answers until
 
--- A use of a member's store: a run by names, or a writing action of a history without a process.
-pub data NamedUse (U : Type 0) : Type 0 where
-  RunsBy : (run : NamedRun U) → NamedUse U
-  WritesBy : (action : Action) → NamedUse U
+-- a use of a member's store: a run by names, or a writing action of a history without a process
+abbrev pub NamedUse : Type 0 → Type 0
+NamedUse U = Use (NamedRun U)
 
--- The stores of a member, in order, each with its uses.
---   Keeps: the member has had no other store since.
---   Replaces: the member lost the store, after some of its uses or inside one. The next one had the boot, and rows for
--- the given tokens with floors by token.
-pub data NamedStores (U : Type 0) : Type 0 where
-  Keeps : (named : List (NamedUse U)) → NamedStores U
-  Replaces : (named : List (NamedUse U)) (boot : ℕ) (given : List ℕ) (floor : ℕ → ℕ) (later : NamedStores U)
-      → NamedStores U
+-- the stores of a member, in order, each with its uses
+abbrev pub NamedStores : Type 0 → Type 0
+NamedStores U = Stores (NamedRun U)
+
+-- ---- The steps of an opening
+
+-- the steps that raise the rows of the puts in the node's store, which has the rows `former`, to the floors of the puts
+abbrev pub raising : ℕ → List (List ℕ) → List Entry → List Put → List Step
+raising node names former [] = []
+raising node names former (put ∷ puts) =
+    Does (Raises node (token_of names (slice_index_or former put.token no_entry).name) put.row.next)
+    ∷ raising node names former puts
+
+-- the steps that give the node's store a row for each entry, with its floor
+abbrev pub enrolling : ℕ → List (List ℕ) → List Entry → List ℕ → List Step
+enrolling node names [] floors = []
+enrolling node names (entry ∷ new) [] = []
+enrolling node names (entry ∷ new) (floor ∷ floors) =
+    Does (Enrols node (token_of names entry.name) floor) ∷ enrolling node names new floors
+
+-- the steps of an opening: rows are raised, and then new rows are enrolled
+abbrev pub opening_steps : ℕ → List (List ℕ) → List Entry → List Put → List Entry → List ℕ → List Step
+opening_steps node names former puts new floors = raising node names former puts ++ enrolling node names new floors
+
+-- ---- A run over a store
 
 -- The tables of a connection hold the store of a history, whatever content and rows these are.
 abbrev pub HoldsStore :
@@ -119,24 +139,49 @@ module _ {S U : Type 0} (g : Ghosts S) (finds : sql.Held S → Type 0) (answers 
   store_left store run is =
       store_under (terms_in is.served names).seats run.left (store_found is.served names run.rows)
 
+  -- The steps are the run: raises of the rows `former`, enrolments of new rows, and its process. The process finds what
+  -- the run found. Its port recorded what the run received and offered, in the order of the steps.
+  pub record AreStepsOfRun (store : Store) (run : NamedRun U) (is : IsRunOver store run) (steps : List Step)
+      : Type 0 where
+    pub former : List Entry
+    pub puts : List Put
+    pub new : List Entry
+    pub floors : List ℕ
+    pub body : List Step
+    pub kept : List NodeEvent
+    pub of_one : AreOfProcess body
+    pub recorded : entries_of_steps bare body ≡ entries_of is.served names
+    pub found : place_in_end setting node (Closed store) (opening_steps node names former puts new floors)
+        ≡ Closed (store_found is.served names run.rows)
+    pub are : steps ≡ opening_steps node names former puts new floors
+        ++ (Starts (terms_in is.served names) bare ∷ body ++ Ends kept ∷ [])
+    pub after : place_in_end setting node (Closed store) steps ≡ Closed (store_left store run is)
+
+-- runs by names, as a kind of runs
+abbrev pub named_runs : {S U : Type 0} → Ghosts S → (sql.Held S → Type 0) → (U → ℕ → Bool → Bool → Type 0)
+    → (setting : Setting) → List (List ℕ) → RunKind setting (NamedRun U)
+named_runs g finds answers setting names = record {
+  is_over = λ node store run. IsRunOver g finds answers setting node names store run;
+  left = λ node store run is. store_left g finds answers setting node names store run is;
+  are_steps = λ node store run is steps. AreStepsOfRun g finds answers setting node names store run is steps;
+}
+
+-- ---- All runs over one store
+
+module _ {S U : Type 0} (g : Ghosts S) (finds : sql.Held S → Type 0) (answers : U → ℕ → Bool → Bool → Type 0)
+    (setting : Setting) (node : ℕ) (names : List (List ℕ)) where
   -- the uses of the store in order, each on what the one before it left
   abbrev pub AreNamedUses : Store → List (NamedUse U) → Type 0
-  AreNamedUses store [] = Unit {0}
-  AreNamedUses store (RunsBy run ∷ later) =
-      (is : IsRunOver store run) × AreNamedUses (store_left store run is) later
-  AreNamedUses store (WritesBy action ∷ later) =
-      IsWriting node action × AreNamedUses (written_store setting action store) later
+  AreNamedUses store named = AreStoreUses (named_runs g finds answers setting names) node store named
 
   -- the uses of each store, the first of which is the given one
   abbrev pub AreNamedStores : Store → NamedStores U → Type 0
-  AreNamedStores store (Keeps named) = AreNamedUses store named
-  AreNamedStores store (Replaces named boot given floor later) =
-      AreNamedUses store named × AreNamedStores (store_with_rows boot given floor) later
+  AreNamedStores store stores = AreMemberStores (named_runs g finds answers setting names) node store stores
 
   -- The uses of a history are the run: raises of the rows `former`, enrolments of new rows, and its process in parts.
   -- The process finds what the run found. Its port recorded what the run received and offered.
-  pub record AreOfRun (store : Store) (run : NamedRun U) (is : IsRunOver store run) (uses : List StoreUse)
-      : Type 0 where
+  pub record AreOfRun (store : Store) (run : NamedRun U) (is : IsRunOver g finds answers setting node names store run)
+      (uses : List StoreUse) : Type 0 where
     pub former : List Entry
     pub puts : List Put
     pub new : List Entry
@@ -153,7 +198,8 @@ module _ {S U : Type 0} (g : Ghosts S) (finds : sql.Held S → Type 0) (answers 
   AreOf store [] are uses = uses ≡ []
   AreOf store (RunsBy run ∷ later) are uses =
       (first : List StoreUse) × (rest : List StoreUse) × (uses ≡ first ++ rest)
-      × AreOfRun store run are.0 first × AreOf (store_left store run are.0) later are.1 rest
+      × AreOfRun store run are.0 first
+      × AreOf (store_left g finds answers setting node names store run are.0) later are.1 rest
   AreOf store (WritesBy action ∷ later) are uses =
       (rest : List StoreUse) × (uses ≡ Writes action ∷ rest)
       × AreOf (written_store setting action store) later are.1 rest
@@ -170,5 +216,4 @@ module _ {S U : Type 0} (g : Ghosts S) (finds : sql.Held S → Type 0) (answers 
     (setting : Setting) (names : List (List ℕ)) where
   -- each node has such uses of its stores, from its first one on
   abbrev pub AreAllNamedStores : (ℕ → NamedStores U) → Type 0
-  AreAllNamedStores stores = (node : ℕ)
-      → AreNamedStores g finds answers setting node names (first_store setting node) (stores node)
+  AreAllNamedStores stores = AreAllStores (named_runs g finds answers setting names) stores

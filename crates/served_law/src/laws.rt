@@ -40,9 +40,10 @@ ghost use Rattle.book_law.specs.Results.{results_in};
 ghost use Rattle.name_law.specs.Unforged.{IsSized};
 ghost use Rattle.order_law.specs.Interleavings.{AreOfMembers, AreReplaced, Item, history_of, steps_at};
 ghost use Rattle.order_law.specs.Steps.{Replies, Says};
-ghost use Rattle.served_law.specs.Orders.{AreFirstOf, HasNamedSteps, HasStepsOf, IsOrderOf, IsRunInOrder};
-ghost use Rattle.served_law.specs.Runs.{AreAllNamedStores, AreNamedUses, AreOf, HasUsesOf, IsOneUse, IsSound, Keeps, NamedStores, NamedUse, terms_in, view_of};
+ghost use Rattle.served_law.specs.Orders.{HasNamedSteps, HasStepsOf, IsOrderOf, IsRunInOrder};
+ghost use Rattle.served_law.specs.Runs.{AreAllNamedStores, AreNamedUses, AreOf, HasUsesOf, IsOneUse, IsSound, NamedStores, NamedUse, terms_in, view_of};
 ghost use Rattle.served_law.specs.Seated.{HasKnownRows, HasRows, IsSeatedStore, served_terms, store_by_names, tokens_of};
+ghost use Rattle.served_law.specs.Uses.{AreFirstOf, Keeps};
 
 use name_law::named_ports_tell_envelopes;
 use named_order_law::{unforged_interleavings_are_safe, unforged_interleavings_keep_devices};

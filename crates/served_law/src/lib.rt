@@ -14,7 +14,7 @@ mod run_laws;
 mod store_laws;
 mod worked;
 
-pub use instance::lone_runs_are_worked;
+pub use instance::{lone_places_are_worked, lone_runs_are_worked};
 pub use laws::{
     named_translators_are_first, opened_names_are_enrolled, opened_names_are_seated,
     opened_names_have_rows, served_devices_are_safe, served_names_are_processes,
@@ -25,7 +25,8 @@ pub use order_laws::{
     clearings_can_be_broken, orders_of_runs_can_be_broken, runs_in_order_can_be_broken,
 };
 pub use placed::{
-    placed_runs_can_be_broken, served_places_are_processes, served_places_have_steps,
+    orders_of_places_can_be_broken, placed_runs_can_be_broken, placed_uses_can_be_broken,
+    served_places_are_processes, served_places_are_safe, served_places_have_steps,
 };
 pub use run_laws::{
     commands_can_be_broken, devices_can_be_broken, named_uses_can_be_broken, runs_can_be_broken,

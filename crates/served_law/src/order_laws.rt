@@ -14,10 +14,11 @@ ghost use Rattle.vote_wire.specs.Key.{bare};
 ghost use Rattle.book_law.specs.Lives.{Enrols, Raises, Setting, Store, Terms, Unlocks};
 ghost use Rattle.order_law.specs.Steps.{AreOfProcess, AreSteps, Closed, Does, Ends, HasSteps, Loses, Starts, Step, entries_of_steps, place_in_end};
 ghost use Rattle.served_law.specs.Examples.{former_rows, no_rows, put_of, three_names, three_tokens};
-ghost use Rattle.served_law.specs.Orders.{AreFirstOf, AreStepsOf, AreStepsOfRun, HasStepsOf, IsInOrder, MayClear, opening_steps};
+ghost use Rattle.served_law.specs.Orders.{AreStepsOf, HasStepsOf, IsInOrder, MayClear};
 ghost use Rattle.served_law.specs.Processes.{RunsIn, number_unlocked, stretches_of};
 ghost use Rattle.served_law.specs.RunExamples.{two_commands, two_steps, unlocking};
-ghost use Rattle.served_law.specs.Runs.{AreNamedUses, IsRunOver, NamedRun, NamedUse, RunsBy, entries_of, store_found, store_left, terms_in};
+ghost use Rattle.served_law.specs.Runs.{AreNamedUses, AreStepsOfRun, IsRunOver, NamedRun, NamedUse, entries_of, opening_steps, store_found, store_left, terms_in};
+ghost use Rattle.served_law.specs.Uses.{AreFirstOf, RunsBy};
 ghost use Rattle.book_law.specs.Examples.{maple_first};
 
 use node_serving::Stop;

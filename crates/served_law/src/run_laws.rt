@@ -32,8 +32,9 @@ ghost use Rattle.served_law.specs.Enrolled.{opening_uses};
 ghost use Rattle.served_law.specs.Examples.{no_rows, rows_of, three_names, three_tokens};
 ghost use Rattle.served_law.specs.Processes.{AreClean, IsUse, MayEndWith, RunsIn, StaysClean, number_unlocked, stretches_of, with_numbers};
 ghost use Rattle.served_law.specs.RunExamples.{stretch_from, two_commands, two_writes};
-ghost use Rattle.served_law.specs.Runs.{AreNamedUses, AreOf, AreOfRun, HasUsesOf, HoldsStore, IsRunOver, IsSound, NamedRun, NamedUse, RunsBy, WritesBy, answers_of, entries_of, store_found, store_left, terms_in, view_of};
+ghost use Rattle.served_law.specs.Runs.{AreNamedUses, AreOf, AreOfRun, HasUsesOf, HoldsStore, IsRunOver, IsSound, NamedRun, NamedUse, answers_of, entries_of, store_found, store_left, terms_in, view_of};
 ghost use Rattle.served_law.specs.Seated.{HasKnownRows};
+ghost use Rattle.served_law.specs.Uses.{RunsBy, WritesBy};
 
 use node_serving::Stop;
 use oathd_database::Database;

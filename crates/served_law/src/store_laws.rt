@@ -16,7 +16,8 @@ ghost use Rattle.served_law.specs.Devices.{HaveDevices, HaveDevicesInStores};
 ghost use Rattle.served_law.specs.Examples.{no_rows, three_names, three_tokens};
 ghost use Rattle.served_law.specs.Orders.{HasNamedSteps, HaveHappened, HaveStepsOf, IsOrderOf};
 ghost use Rattle.served_law.specs.RunExamples.{enrolled_at, gets_at, lost_items, lost_stores, lost_then, raises_next, two_commands, two_steps, two_stores};
-ghost use Rattle.served_law.specs.Runs.{AreAllNamedStores, AreNamedStores, AreNamedUses, Keeps, NamedStores, NamedUse, Replaces, WritesBy};
+ghost use Rattle.served_law.specs.Runs.{AreAllNamedStores, AreNamedStores, AreNamedUses, NamedStores, NamedUse};
+ghost use Rattle.served_law.specs.Uses.{Keeps, Replaces, WritesBy};
 
 use node_serving::Stop;
 use oathd_database::Database;

@@ -38,7 +38,7 @@ module _ {S U : Type 0} (g : Ghosts S) (finds : sql.Held S → Type 0) (answers 
         (record { later = []; all_are = refl });
     replaced = replaced;
     starts = λ i envelope at. absurd cc;
-    unforged = (tt, omega arith, (tt, tt, (tt, (λ token. omega arith), tt)));
+    caused = (tt, omega arith, (tt, tt, (tt, (λ token. omega arith), tt)));
   }
 
   lost : IsOrderOf g finds answers three_tokens three_names (lost_stores U 1 5) are (at 1 Loses ∷ [])
@@ -51,7 +51,7 @@ module _ {S U : Type 0} (g : Ghosts S) (finds : sql.Held S → Type 0) (answers 
         (record { later = []; all_are = refl });
     replaced = all_replaced three_tokens (at 1 Loses ∷ []) (tt, tt);
     starts = λ i envelope at. absurd cc;
-    unforged = (tt, tt, tt);
+    caused = (tt, tt, tt);
   }
 
 pub returns-clause-order : goal.returns-clause-order
@@ -86,7 +86,7 @@ pub returns-clause-former_of_the_boot : goal.returns-clause-former_of_the_boot
 returns-clause-former_of_the_boot g c = λ are h. let low : 1 < 1 = (h.starts 0 _ refl).1 in omega (arith, low)
 
 pub returns-clause-past_the_last_floor : goal.returns-clause-past_the_last_floor
-returns-clause-past_the_last_floor g c = λ are h. let low : 2 ^ 62 + 1 ≤ 2 ^ 62 = h.unforged.1 in omega (arith, low)
+returns-clause-past_the_last_floor g c = λ are h. let low : 2 ^ 62 + 1 ≤ 2 ^ 62 = h.caused.1 in omega (arith, low)
 
 pub returns-clause-interleavings : goal.returns-clause-interleavings
 returns-clause-interleavings g c = λ setting names stores are has items members same replaced. has.interleavings items members same replaced
@@ -104,4 +104,4 @@ pub returns-clause-starts : goal.returns-clause-starts
 returns-clause-starts g c = λ setting names stores are items is. is.starts
 
 pub returns-clause-unforged : goal.returns-clause-unforged
-returns-clause-unforged g c = λ setting names stores are items is. is.unforged
+returns-clause-unforged g c = λ setting names stores are items is. is.caused

@@ -5,9 +5,10 @@ use Rattle.sqlite.specs.Held as sql
 use Rattle.book_law.specs.Lives.{Enrols, Raises, Unlocks, store_with_rows}
 use Rattle.order_law.specs.Steps.{Does, Gets, Loses, Step}
 use Rattle.served_law.specs.Examples.{no_rows, three_names, three_tokens}
-use Rattle.served_law.specs.Orders.{AreFirstOf, HasStepsOf, HaveHappened, HaveStepsOf}
+use Rattle.served_law.specs.Orders.{HasStepsOf, HaveHappened, HaveStepsOf}
 use Rattle.served_law.specs.RunExamples.{gets_at, lost_then, raises_next, two_commands, two_steps, two_stores}
-use Rattle.served_law.specs.Runs.{AreNamedStores, AreNamedUses, WritesBy}
+use Rattle.served_law.specs.Runs.{AreNamedStores, AreNamedUses}
+use Rattle.served_law.specs.Uses.{AreFirstOf, WritesBy}
 use Rattle.served_law.proofs.store_laws.stores_can_be_broken.Goals as goal
 
 pub returns-clause-stores : goal.returns-clause-stores
