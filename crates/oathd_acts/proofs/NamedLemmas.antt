@@ -1,8 +1,6 @@
--- What the acts over a store by names have done.
-use Rattle.std.proofs.Common.{◌≡◌, ℕ, List, [], Option, Some, length, subst, sym}
-use Rattle.std.specs.Prelude.{Result, Ok, Err, IfOk, false}
-use Rattle.std.specs.Borrow.{Bor}
-use Rattle.std.specs.Global.{Vec}
+-- What the commands over a store by names have done.
+use Rattle.std.proofs.Common.{◌≡◌, ℕ, Bool, true, List, Option, Some, length, subst, sym}
+use Rattle.std.specs.Prelude.{false}
 use Rattle.std.specs.Option.{unwrap_or}
 use Rattle.sqlite.specs.Store.{Ghosts}
 use Rattle.sqlite.specs.Held as sql
@@ -11,11 +9,10 @@ use Rattle.otp_core.specs.Range.{IsMoment}
 use Rattle.floor_sql.specs.Held.{SqlHeld}
 use Rattle.seated_store.specs.Seated.{SeatedRecord}
 use Rattle.vote_core.specs.NodeSet.{PlaceRecord}
-use Rattle.oathd_words.specs.declared.store_words.NamedAct.{NamedAct}
-use Rattle.oathd_words.specs.declared.store_words.NamedAct.TheVariants as acts
 use Rattle.oathd_seats.specs.Commands.{HasToldRoster}
+use Rattle.oathd_roster.specs.Begun.{HasBegun}
 use Rattle.oathd_roster.specs.declared.cluster.NamedCluster.{NamedCluster}
-use Rattle.oathd_acts.specs.Named.{ActsFor, AreNamedFloorsTold, IsActDone, IsFormerOf, IsRemadeByNames}
+use Rattle.oathd_acts.specs.Named.{AreNamedFloorsTold, IsBegun, IsFormerOf, IsMemberLevelled, IsMigratedByNames, IsRemadeByNames, IsRosterTold}
 use Rattle.oathd_site.specs.Names.{IsKeyOf, IsMemberByNames}
 use Rattle.oathd_floors.specs.Dropped.{HasDropped}
 use Rattle.oathd_floors.specs.Levelled.{HasLevelled}
@@ -24,55 +21,79 @@ use Rattle.oathd_floors.specs.Remade.{HasRemade}
 use Rattle.oathd_floors.specs.Told.{HasTold}
 use Rattle.oathd_floors.specs.declared.remaking.Former.{Former}
 use Rattle.oathd_words.specs.declared.former_words.FormerWords.{FormerWords}
-use Rattle.oathd_site.specs.declared.fault.Fault.{Fault}
 
 module _ {S : Type 0} (g : Ghosts S) (finds : sql.Held S → Type 0) where
-  -- an act with a name is the act
-  pub act_done : (node : ℕ) (act other : NamedAct) (text : List ℕ) (old new : Option (List ℕ)) (settings : Limits) (place : PlaceRecord)
-      (named : NamedCluster) (result : Result Unit Fault) → act ≡ other → IsMemberByNames node text settings place named
-      → IfOk result (λ _. ActsFor g finds text other settings place named old new) → IfOk result (λ _. IsActDone g finds node act text old new)
-  act_done node act other text old new settings place named (Ok done) is member h = record {
-    settings = settings;
-    place = place;
-    named = named;
-    member = member;
-    acts = subst (λ (a : NamedAct). ActsFor g finds text a settings place named old new) (sym is) h;
-  }
-  act_done node act other text old new settings place named (Err fault) is member h = tt
+  module _ (node : ℕ) (text : List ℕ) (settings : Limits) (place : PlaceRecord) (named : NamedCluster) (member : IsMemberByNames node text settings place named) where
+    -- the store of the member begins
+    pub begun : (old new : Option (List ℕ)) (users : List ℕ) (moment : ℕ) (store : SeatedRecord (SqlHeld S)) → IsMoment moment
+        → HasBegun g finds named settings moment 16777216 place store old new users → IsBegun g finds node text old new
+    begun old new users moment store at h = record {
+      settings = settings;
+      place = place;
+      named = named;
+      member = member;
+      done = (users, record { moment = moment; is_moment = at; store = store; begun = h });
+    }
 
-  module _ (text : List ℕ) (settings : Limits) (place : PlaceRecord) (named : NamedCluster) (old new : Option (List ℕ)) (node : ℕ) (same : node ≡ place.me)
-      (users : List ℕ) where
-    -- what is printed of the store of the member
-    pub told_roster : HasToldRoster g finds named settings 16777216 node old new users → ActsFor g finds text acts.Roster settings place named old new
-    told_roster h = (users, subst (λ (n : ℕ). HasToldRoster g finds named settings 16777216 n old new users) same h)
+    module _ (me : ℕ) (same : me ≡ place.me) (users : List ℕ) where
+      -- what is printed of the store of the member
+      pub told_roster : (drops : Bool) (old new : Option (List ℕ)) → drops ≡ false → HasToldRoster g finds named settings 16777216 me old new users
+          → IsRosterTold g finds node drops text old new
+      told_roster drops old new is h = subst (λ (b : Bool). IsRosterTold g finds node b text old new) (sym is) (record {
+        settings = settings;
+        place = place;
+        named = named;
+        member = member;
+        done = (users, subst (λ (n : ℕ). HasToldRoster g finds named settings 16777216 n old new users) same h);
+      })
 
-    pub dropped : (conn : sql.Held S) → HasDropped g finds named settings 16777216 node old new conn users
-        → ActsFor g finds text acts.DropRetired settings place named old new
-    dropped conn h = (users, (conn, subst (λ (n : ℕ). HasDropped g finds named settings 16777216 n old new conn users) same h))
+      pub dropped : (drops : Bool) (old new : Option (List ℕ)) (conn : sql.Held S) → drops ≡ true
+          → HasDropped g finds named settings 16777216 me old new conn users → IsRosterTold g finds node drops text old new
+      dropped drops old new conn is h = subst (λ (b : Bool). IsRosterTold g finds node b text old new) (sym is) (record {
+        settings = settings;
+        place = place;
+        named = named;
+        member = member;
+        done = (users, (conn, subst (λ (n : ℕ). HasDropped g finds named settings 16777216 n old new conn users) same h));
+      })
 
-    pub migrated : (members : Option ℕ) (conn : sql.Held S) → members ≡ Some place.n → HasNamed g finds named default_limits 16777216 node conn users
-        → ActsFor g finds text (acts.Migrate members) settings place named old new
-    migrated members conn said h = (users, (said, (conn, subst (λ (n : ℕ). HasNamed g finds named default_limits 16777216 n conn users) same h)))
+      -- the tokens of the store of the member get names
+      pub migrated : (members : Option ℕ) (conn : sql.Held S) → members ≡ Some place.n → HasNamed g finds named default_limits 16777216 me conn users
+          → IsMigratedByNames g finds node members text
+      migrated members conn said h = record {
+        settings = settings;
+        place = place;
+        named = named;
+        member = member;
+        done = record {
+          were = said;
+          users = users;
+          conn = conn;
+          of_names = subst (λ (n : ℕ). HasNamed g finds named default_limits 16777216 n conn users) same h;
+        };
+      }
 
-  -- floors are raised by names
-  pub levelled_named : (text : List ℕ) (settings : Limits) (place : PlaceRecord) (named : NamedCluster) (old new : Option (List ℕ)) (floors : Vec (Bor (List ℕ)))
-      (key given : List ℕ) (node now : ℕ) (texts : List (List ℕ)) (store : SqlHeld S) → IsKeyOf text key → given ≡ key → node ≡ place.me → IsMoment now
-      → length texts ≡ length floors.items → HasLevelled g finds (record { key = given; own = named.bond; is_anew = false; now = now }) node texts store
-      → ActsFor g finds text (acts.Level floors) settings place named old new
-  levelled_named text settings place named old new floors key given node now texts store of_key same at is_now each h = (
-    [],
-    record {
-      key = key;
-      of_key = of_key;
-      now = now;
-      is_now = is_now;
-      texts = texts;
-      each = each;
-      store = store;
-      levelled = subst (λ (n : ℕ). HasLevelled g finds (record { key = key; own = named.bond; is_anew = false; now = now }) n texts store) at
-          (subst (λ (k : List ℕ). HasLevelled g finds (record { key = k; own = named.bond; is_anew = false; now = now }) node texts store) same h);
-    },
-  )
+    -- floors are raised by names
+    pub levelled_named : (count : ℕ) (key given : List ℕ) (me now : ℕ) (texts : List (List ℕ)) (store : SqlHeld S) → IsKeyOf text key → given ≡ key
+        → me ≡ place.me → IsMoment now → length texts ≡ count
+        → HasLevelled g finds (record { key = given; own = named.bond; is_anew = false; now = now }) me texts store → IsMemberLevelled g finds node count text
+    levelled_named count key given me now texts store of_key same at is_now each h = record {
+      settings = settings;
+      place = place;
+      named = named;
+      member = member;
+      done = record {
+        key = key;
+        of_key = of_key;
+        now = now;
+        is_now = is_now;
+        texts = texts;
+        each = each;
+        store = store;
+        levelled = subst (λ (n : ℕ). HasLevelled g finds (record { key = key; own = named.bond; is_anew = false; now = now }) n texts store) at
+            (subst (λ (k : List ℕ). HasLevelled g finds (record { key = k; own = named.bond; is_anew = false; now = now }) me texts store) same h);
+      };
+    }
 
   -- a floors file by names is written
   pub named_floors_told : (named : NamedCluster) (key given : List ℕ) (node moment : ℕ) (old new : Option (List ℕ)) → given ≡ key → IsMoment moment

@@ -14,6 +14,7 @@ use Rattle.vote_core.specs.NodeSet.{PlaceRecord}
 use Rattle.cluster_file.specs.ClusterFile.{cluster_of, cluster_value}
 use Rattle.cluster_file.specs.declared.cluster.Cluster.{Cluster}
 use Rattle.oathd_words.specs.declared.former_words.FormerWords.{FormerWords}
+use Rattle.oathd_words.specs.declared.store_words.Owner.{Owner}
 use Rattle.oathd_database.specs.Commands.{HasMade}
 use Rattle.oathd_database.specs.Floors.{HasToldFloors}
 use Rattle.oathd_database.specs.Level.{HasLevelled}
@@ -24,7 +25,7 @@ use Rattle.cluster_file.specs.Said.{key_place}
 use Rattle.oathd_roster.specs.declared.cluster.NamedCluster.{NamedCluster}
 use Rattle.oathd_tasks.specs.Check.{IsKeyIn}
 use Rattle.oathd_site.proofs.NamesLemmas.{member_at}
-use Rattle.oathd_acts.specs.Plain.{AreFloorsTold, AreFloorsToldBy, AreMembersFloorsTold, IsCreated, IsLevelled, IsLostNodeOf, IsMemberCreated, IsMemberReplaced, IsMomentOf, IsReplaced, IsReplacedBy, IsReplacedSo}
+use Rattle.oathd_acts.specs.Plain.{AreFloorsTold, AreFloorsToldBy, AreMembersFloorsTold, IsCreated, IsLevelled, IsLevelledBy, IsLostNodeOf, IsMemberCreated, IsMemberReplaced, IsMigratedBy, IsMomentOf, IsReplaced, IsReplacedBy, IsReplacedSo}
 use Rattle.oathd_acts.specs.Named.{AreNamedFloorsTold, IsRemadeByNames}
 use Rattle.oathd_site.specs.Names.{AreNamesIn}
 use Rattle.oathd_site.specs.Names.{place_in}
@@ -67,6 +68,16 @@ module _ {S : Type 0} (g : Ghosts S) (finds : sql.Held S → Type 0) (node : ℕ
   pub floors_told : (members moment : ℕ) (old new : Option (List ℕ)) → IsMoment moment
       → HasToldFloors g finds default_limits 16777216 node members moment old new users → AreFloorsTold g finds node members old new
   floors_told members moment old new at h = record { moment = moment; is_moment = at; users = users; told = h }
+
+module _ {S : Type 0} (g : Ghosts S) (finds : sql.Held S → Type 0) (owner other : Owner) where
+  -- an owner with a name is the owner
+  pub migrated_by : (members : Option ℕ) (text : List ℕ) (result : Result Unit Fault) → owner ≡ other
+      → IfOk result (λ _. IsMigratedBy g finds other members text) → IfOk result (λ _. IsMigratedBy g finds owner members text)
+  migrated_by members text result is h = subst (λ (it : Owner). IfOk result (λ _. IsMigratedBy g finds it members text)) (sym is) h
+
+  pub levelled_by : (count : ℕ) (text : List ℕ) (result : Result Unit Fault) → owner ≡ other
+      → IfOk result (λ _. IsLevelledBy g finds other count text) → IfOk result (λ _. IsLevelledBy g finds owner count text)
+  levelled_by count text result is h = subst (λ (it : Owner). IfOk result (λ _. IsLevelledBy g finds it count text)) (sym is) h
 
 -- floors are raised by the files at the same paths
 pub levelled_paths : {S : Type 0} {V : Type 0} (g : Ghosts S) (finds : sql.Held S → Type 0) (node : ℕ) (paths all : List V) → paths ≡ all

@@ -1,5 +1,5 @@
--- The acts over a store by names.
-use Rattle.std.specs.Prelude.{◌≡◌, ◌<◌, ℕ, false, List, length, Option, Some, min}
+-- The effects of the commands over a stopped store by names.
+use Rattle.std.specs.Prelude.{◌≡◌, ◌<◌, ℕ, Bool, false, true, List, length, Option, Some, min}
 use Rattle.std.specs.Option.{option_map, unwrap_or}
 use Rattle.sqlite.specs.Store.{Ghosts}
 use Rattle.sqlite.specs.Held as sql
@@ -9,8 +9,6 @@ use Rattle.vote_core.specs.NodeSet.{PlaceRecord}
 use Rattle.floor_sql.specs.Held.{SqlHeld}
 use Rattle.seated_store.specs.Seated.{SeatedRecord}
 use Rattle.oathd_words.specs.declared.former_words.FormerWords.{FormerWords}
-use Rattle.oathd_words.specs.declared.store_words.NamedAct.{NamedAct}
-use Rattle.oathd_words.specs.declared.store_words.NamedAct.TheVariants as acts
 use Rattle.oathd_floors.specs.Dropped.{HasDropped}
 use Rattle.oathd_floors.specs.Levelled.{HasLevelled}
 use Rattle.oathd_floors.specs.Named.{HasNamed}
@@ -21,6 +19,15 @@ use Rattle.oathd_roster.specs.Begun.{HasBegun}
 use Rattle.oathd_seats.specs.Commands.{HasToldRoster}
 use Rattle.oathd_roster.specs.declared.cluster.NamedCluster.{NamedCluster}
 use Rattle.oathd_site.specs.Names.{IsKeyOf, IsMemberByNames}
+
+-- Something is done for the member `node` of the cluster that the text of a cluster file describes, with the settings,
+-- the place and the names that the text gives.
+pub record IsOfMember (node : ℕ) (text : List ℕ) (does : Limits → PlaceRecord → NamedCluster → Type 0) : Type 0 where
+  pub settings : Limits
+  pub place : PlaceRecord
+  pub named : NamedCluster
+  pub member : IsMemberByNames node text settings place named
+  pub done : does settings place named
 
 -- The floors files of former stores are those of the words, and were read in a later second than they say.
 pub record IsFormerOf (words : FormerWords) (former : Former) : Type 0 where
@@ -71,29 +78,39 @@ module _ {S : Type 0} (g : Ghosts S) (finds : sql.Held S → Type 0) where
     pub made : HasRemade g finds named key settings (unwrap_or given former.now) 16777216 place former store old new
         users
 
-  -- what is done to the store of a member of the cluster that the text of a cluster file describes
-  abbrev pub Acts : List ℕ → NamedAct → Limits → PlaceRecord → NamedCluster → Option (List ℕ) → Option (List ℕ)
-      → List ℕ → Type 0
-  Acts text acts.Begin settings place named old new users = Begins settings place named old new users
-  Acts text acts.Roster settings place named old new users =
+  -- the rows of the store are printed, or the rows of retired tokens are dropped whose floors other rows keep
+  abbrev pub TellsRows : Bool → Limits → PlaceRecord → NamedCluster → Option (List ℕ) → Option (List ℕ) → List ℕ
+      → Type 0
+  TellsRows false settings place named old new users =
       HasToldRoster g finds named settings 16777216 place.me old new users
-  Acts text acts.DropRetired settings place named old new users =
+  TellsRows true settings place named old new users =
       (conn : sql.Held S) × HasDropped g finds named settings 16777216 place.me old new conn users
-  Acts text (acts.Migrate members) settings place named old new users =
-      (members ≡ Some place.n)
-      × ((conn : sql.Held S) × HasNamed g finds named default_limits 16777216 place.me conn users)
-  Acts text (acts.Level floors) settings place named old new users =
-      IsLevelledByNames text place.me named (length floors.items)
 
-  -- the same for some users file
-  abbrev pub ActsFor : List ℕ → NamedAct → Limits → PlaceRecord → NamedCluster → Option (List ℕ)
-      → Option (List ℕ) → Type 0
-  ActsFor text act settings place named old new = (users : List ℕ) × Acts text act settings place named old new users
+  -- The store gets names. The cluster had as many members until now.
+  pub record GetsNames (members : Option ℕ) (place : PlaceRecord) (named : NamedCluster) : Type 0 where
+    pub were : members ≡ Some place.n
+    pub users : List ℕ
+    pub conn : sql.Held S
+    pub of_names : HasNamed g finds named default_limits 16777216 place.me conn users
 
-  -- The act on the store of the member `node` is done. The text is that of the cluster file.
-  pub record IsActDone (node : ℕ) (act : NamedAct) (text : List ℕ) (old new : Option (List ℕ)) : Type 0 where
-    pub settings : Limits
-    pub place : PlaceRecord
-    pub named : NamedCluster
-    pub member : IsMemberByNames node text settings place named
-    pub acts : ActsFor text act settings place named old new
+  -- ---- Of the member `node` of the cluster that the text of a cluster file describes
+
+  -- its store begins, for a cluster that never served
+  abbrev pub IsBegun : ℕ → List ℕ → Option (List ℕ) → Option (List ℕ) → Type 0
+  IsBegun node text old new = IsOfMember node text
+      (λ settings place named. (users : List ℕ) × Begins settings place named old new users)
+
+  -- its rows are printed or dropped
+  abbrev pub IsRosterTold : ℕ → Bool → List ℕ → Option (List ℕ) → Option (List ℕ) → Type 0
+  IsRosterTold node drops text old new = IsOfMember node text
+      (λ settings place named. (users : List ℕ) × TellsRows drops settings place named old new users)
+
+  -- its store gets names
+  abbrev pub IsMigratedByNames : ℕ → Option ℕ → List ℕ → Type 0
+  IsMigratedByNames node members text =
+      IsOfMember node text (λ settings place named. GetsNames members place named)
+
+  -- its floors are raised by `count` floors files
+  abbrev pub IsMemberLevelled : ℕ → ℕ → List ℕ → Type 0
+  IsMemberLevelled node count text =
+      IsOfMember node text (λ settings place named. IsLevelledByNames text place.me named count)

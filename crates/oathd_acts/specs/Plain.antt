@@ -1,4 +1,4 @@
--- The effects of the commands over a stopped store without names, by their words.
+-- The effects of the commands that create, upgrade or level a stopped store, or print its floors, by their words.
 --
 -- Floor: the first free factor of a token at a node.
 use Rattle.std.specs.Prelude.{◌≡◌, ℕ, List, length, Option, None, Some, Ok}
@@ -13,7 +13,9 @@ use Rattle.vote_core.specs.NodeSet.{PlaceRecord}
 use Rattle.floor_sql.specs.Held.{SqlHeld}
 use Rattle.cluster_file.specs.ClusterFile.{ClusterRecord, cluster_of}
 use Rattle.oathd_words.specs.declared.former_words.FormerWords.{FormerWords}
-use Rattle.oathd_database.specs.Commands.{HasMade}
+use Rattle.oathd_words.specs.declared.store_words.Owner.{Owner}
+use Rattle.oathd_words.specs.declared.store_words.Owner.TheVariants.{Any, Node, Member}
+use Rattle.oathd_database.specs.Commands.{HasMade, HasMigrated}
 use Rattle.oathd_database.specs.Floors.{HasToldFloors}
 use Rattle.oathd_database.specs.Level.{HasLevelled}
 use Rattle.oathd_database.specs.Lost.{HasRemade}
@@ -21,7 +23,7 @@ use Rattle.oathd_database.specs.Made.{HasMadeMember, store_line}
 use Rattle.oathd_database.specs.declared.lost.LostNode.{LostNode}
 use Rattle.oathd_roster.specs.declared.cluster.NamedCluster.{NamedCluster}
 use Rattle.oathd_tasks.specs.Check.{IsKeyIn}
-use Rattle.oathd_acts.specs.Named.{AreNamedFloorsTold, IsRemadeByNames}
+use Rattle.oathd_acts.specs.Named.{AreNamedFloorsTold, IsMemberLevelled, IsMigratedByNames, IsRemadeByNames}
 use Rattle.oathd_site.specs.Names.{IsNamedIn}
 use Rattle.oathd_site.specs.Names.{place_in}
 
@@ -99,6 +101,17 @@ module _ {S : Type 0} (g : Ghosts S) (finds : sql.Held S → Type 0) where
     pub of_text : cluster_of text ≡ Ok cluster
     pub replaced : IsReplacedBy cluster (place_in cluster node) given former cluster.names old new
 
+  -- The node's store is upgraded to the current format.
+  abbrev pub IsMigrated : ℕ → Type 0
+  IsMigrated node =
+      (users : List ℕ) × (conn : sql.Held S) × HasMigrated g finds default_limits 0 16777216 node conn users
+
+  -- the store of its owner is upgraded, with the number of members that the cluster had until now
+  abbrev pub IsMigratedBy : Owner → Option ℕ → List ℕ → Type 0
+  IsMigratedBy Any members text = ⊥
+  IsMigratedBy (Node node) members text = IsMigrated node
+  IsMigratedBy (Member node path) members text = IsMigratedByNames g finds node members text
+
   -- The floors of the node's store are raised by the texts of `count` floors files.
   pub record IsLevelled (node count : ℕ) : Type 0 where
     pub users : List ℕ
@@ -106,6 +119,12 @@ module _ {S : Type 0} (g : Ghosts S) (finds : sql.Held S → Type 0) where
     pub each : length texts ≡ count
     pub store : SqlHeld S
     pub levelled : HasLevelled g finds default_limits 16777216 node texts store users
+
+  -- the floors of the store of its owner are raised by `count` floors files
+  abbrev pub IsLevelledBy : Owner → ℕ → List ℕ → Type 0
+  IsLevelledBy Any count text = ⊥
+  IsLevelledBy (Node node) count text = IsLevelled node count
+  IsLevelledBy (Member node path) count text = IsMemberLevelled g finds node count text
 
   -- The floors file of the node's store is written, with the given number of members and some moment.
   pub record AreFloorsTold (node members : ℕ) (old new : Option (List ℕ)) : Type 0 where

@@ -5,14 +5,14 @@ ghost use Rattle.sqlite_wal.specs.Files.{image_at};
 ghost use Rattle.oathd_acts.specs.Acting.{IsStopped, IsStoppedDone, creates};
 ghost use Rattle.oathd_database.specs.File.{FindsFiles};
 ghost use Rattle.oathd_words.specs.StoreWords.{IsActionInRange};
-ghost use Rattle.oathd_words.specs.declared.store_words.Action.TheVariants.{Floors, Init, Level, Look, Migrate, Remake};
+ghost use Rattle.oathd_words.specs.declared.store_words.Action.TheVariants.{Begin, Floors, Init, Level, Look, Migrate, Remake, Roster};
 
 use crate::looks::look;
-use crate::named::act;
+use crate::named::{begin, roster};
 use crate::plain::{floors, init, level, migrate, remake};
 use oathd_database::{Database, DatabaseFile};
 use oathd_site::{Fault, Site};
-use oathd_words::{Action, NamedAct};
+use oathd_words::Action;
 use sqlite::{Alter, FileFrom, FileStore, Start};
 use sqlite_trees::store::Store;
 use std::io::{self, Write};
@@ -22,11 +22,7 @@ fn creates(action: &Action<'_>) -> bool
     ensures { result ≡ creates action.now }
 {
     match action {
-        Action::Init { .. } | Action::Remake { .. } => true,
-        Action::Named {
-            act: NamedAct::Begin,
-            ..
-        } => true,
+        Action::Init { .. } | Action::Begin { .. } | Action::Remake { .. } => true,
         _ => false,
     }
 }
@@ -49,6 +45,7 @@ fn act_on<'a, S: Alter + Drop, D: Database<S>, O: Write>(
             import,
             moment,
         } => init(site, database, node, import, moment, held),
+        Action::Begin { node, .. } => begin(site, database, node, held),
         Action::Remake {
             node,
             import,
@@ -56,14 +53,13 @@ fn act_on<'a, S: Alter + Drop, D: Database<S>, O: Write>(
             former,
         } => remake(site, database, node, import, moment, former, held),
         Action::Look { owner, look: with } => look(site, database, owner, with, held),
-        Action::Migrate { node } => migrate(site, database, node),
+        Action::Roster { node, drops, .. } => roster(site, database, node, drops, held),
+        Action::Migrate {
+            owner,
+            members_were,
+        } => migrate(site, database, owner, members_were),
         Action::Floors { node, count } => floors(site, database, node, count, held),
-        Action::Level { node, floors } => level(site, database, node, floors),
-        Action::Named {
-            node,
-            act: with,
-            ..
-        } => act(site, database, node, with, held),
+        Action::Level { owner, floors } => level(site, database, owner, floors),
         Action::Serve { .. } => unreachable!(),
     }
 }

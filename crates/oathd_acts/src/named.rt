@@ -1,13 +1,11 @@
 //! Carries out the commands over a stopped store by names.
 
 ghost use Rattle.oathd_database.specs.declared.fault.Fault.TheVariants as database;
-ghost use Rattle.oathd_words.specs.declared.store_words.NamedAct.TheVariants as acts;
-ghost use Rattle.std.specs.Prelude.{◌≡◌, ◌<◌, None, IfOk, IfSome, ℕ, List, Option, Some};
+ghost use Rattle.std.specs.Prelude.{◌≡◌, ◌<◌, length, IfOk, IfSome, Some};
 ghost use Rattle.floor_sql.specs.Usable.{IsNode};
 ghost use Rattle.otp_core.specs.Range.{IsMoment};
-ghost use Rattle.oathd_words.specs.declared.store_words.Action.TheVariants.{Level, Migrate};
 ghost use Rattle.std.specs.Option.{unwrap_or};
-ghost use Rattle.oathd_acts.specs.Named.{ActsFor, AreNamedFloorsTold, IsActDone, IsRemadeByNames};
+ghost use Rattle.oathd_acts.specs.Named.{AreNamedFloorsTold, IsBegun, IsMemberLevelled, IsMigratedByNames, IsRemadeByNames, IsRosterTold};
 
 use floors_file::MAX_NAMED_FLOORS_LEN;
 use oathd_database::Database;
@@ -19,7 +17,7 @@ use oathd_seats::roster_named_store;
 use oathd_site::{
     Fault, NamesFault, Site, checked_users_text, floors_texts, present_moment, with_named_paths,
 };
-use oathd_words::{FormerWords, NamedAct};
+use oathd_words::FormerWords;
 use otp_core::Settings;
 use sqlite::Alter;
 use std::io::{self, Write};
@@ -51,90 +49,79 @@ fn check_members<'a>(members_were: Option<u8>, members: u8) -> Result<(), Fault<
     }
 }
 
-/// Creates the store of a member for a cluster that never served, and prints what was made.
-fn begin<'a, S: Alter + Drop, D: Database<S>, O: Write>(
+/// Creates the store of the member `node` for a cluster that never served, and prints what was made.
+pub(crate) fn begin<'a, S: Alter + Drop, D: Database<S>, O: Write>(
     site: &Site<'_, 'a>,
     database: D,
-    settings: Settings,
-    place: Place,
-    named: &NamedCluster,
+    node: u8,
     held: &mut O,
 ) -> Result<(), Fault<'a>>
-    requires { IsNode place.me }
-    ensures { IfOk result (λ _. ActsFor S.Store D.finds site.now.cluster.now acts.Begin settings place named.now
+    requires { IsNode node }
+    ensures { IfOk result (λ _. IsBegun S.Store D.finds node site.now.cluster.now
         (O.contents held.old) (O.contents held.new)) }
 {
+    let (settings, place, named) = site.member(node)?;
     let moment = present_moment(site.rt)?;
     let users = site.users(settings, moment)?;
     let alloc = site.alloc;
-    let _store = begin_store(alloc, users, settings, moment, place, named, database, held)?;
+    let _store = begin_store(
+        alloc, users, settings, moment, place, &named, database, held,
+    )?;
     Ok(())
 }
 
-/// Prints the rows of the store.
-fn roster_named<'a, S: Alter + Drop, D: Database<S>, O: Write>(
+/// Prints the rows of a member's store, or drops the rows of retired tokens whose floors other rows keep and prints
+/// how many.
+pub(crate) fn roster<'a, S: Alter + Drop, D: Database<S>, O: Write>(
     site: &Site<'_, 'a>,
     database: D,
-    settings: Settings,
-    place: Place,
-    named: &NamedCluster,
+    node: u8,
+    drops: bool,
     held: &mut O,
 ) -> Result<(), Fault<'a>>
-    ensures { IfOk result (λ _. ActsFor S.Store D.finds site.now.cluster.now acts.Roster settings place named.now
+    requires { IsNode node }
+    ensures { IfOk result (λ _. IsRosterTold S.Store D.finds node drops site.now.cluster.now
         (O.contents held.old) (O.contents held.new)) }
 {
-    let (alloc, users) = (site.alloc, site.users_alone()?);
-    roster_named_store(alloc, users, settings, place.me(), named, database, held)?;
+    let (settings, place, named) = site.member(node)?;
+    let (alloc, users, me) = (site.alloc, site.users_alone()?, place.me());
+    if drops {
+        let _conn = drop_retired_rows(alloc, users, settings, me, &named, database, held)?;
+        return Ok(());
+    }
+    roster_named_store(alloc, users, settings, me, &named, database, held)?;
     Ok(())
 }
 
-/// Drops the rows of retired tokens whose floors other rows keep, and prints how many.
-fn drop_named<'a, S: Alter + Drop, D: Database<S>, O: Write>(
+/// Gives the tokens of a member's store names.
+pub(crate) fn migrate_named<'a, S: Alter + Drop, D: Database<S>>(
     site: &Site<'_, 'a>,
     database: D,
-    settings: Settings,
-    place: Place,
-    named: &NamedCluster,
-    held: &mut O,
-) -> Result<(), Fault<'a>>
-    ensures { IfOk result (λ _. ActsFor S.Store D.finds site.now.cluster.now acts.DropRetired settings place named.now
-        (O.contents held.old) (O.contents held.new)) }
-{
-    let (alloc, users) = (site.alloc, site.users_alone()?);
-    let _conn = drop_retired_rows(alloc, users, settings, place.me(), named, database, held)?;
-    Ok(())
-}
-
-/// Gives the tokens of the store names.
-fn migrate_named<'a, S: Alter + Drop, D: Database<S>>(
-    site: &Site<'_, 'a>,
-    database: D,
-    settings: Settings,
-    place: Place,
-    named: &NamedCluster,
+    node: u8,
     members_were: Option<u8>,
 ) -> Result<(), Fault<'a>>
-    ensures { (old : Option (List ℕ)) (new : Option (List ℕ)) → IfOk result (λ _. ActsFor S.Store D.finds
-        site.now.cluster.now (acts.Migrate members_were) settings place named.now old new) }
+    requires { IsNode node }
+    ensures { IfOk result (λ _. IsMigratedByNames S.Store D.finds node members_were site.now.cluster.now) }
 {
+    let (_, place, named) = site.member(node)?;
     check_members(members_were, place.n())?;
     let users = site.users_alone()?;
-    let _conn = name_store(site.alloc, users, place.me(), named, database)?;
+    let _conn = name_store(site.alloc, users, place.me(), &named, database)?;
     Ok(())
 }
 
-/// Raises the floors of the store (floor: the first free factor) to the greatest in floors files.
-fn level_named<'a, S: Alter + Drop, D: Database<S>>(
+/// Raises the floors of a member's store (floor: the first free factor) to the greatest in floors files.
+pub(crate) fn level_named<'a, S: Alter + Drop, D: Database<S>>(
     site: &Site<'_, 'a>,
     database: D,
-    settings: Settings,
-    place: Place,
-    named: &NamedCluster,
+    node: u8,
     floors: Vec<&'a str>,
 ) -> Result<(), Fault<'a>>
-    ensures { (old : Option (List ℕ)) (new : Option (List ℕ)) → IfOk result (λ _. ActsFor S.Store D.finds
-        site.now.cluster.now (acts.Level floors.entry) settings place named.now old new) }
+    requires { IsNode node }
+    ensures { IfOk result (λ _. IsMemberLevelled S.Store D.finds node (length floors.entry.items)
+        site.now.cluster.now) }
 {
+    let (_, place, named) = site.member(node)?;
     let key = site.own_key()?;
     let now = present_moment(site.rt)?;
     let texts = floors_texts(site.alloc, site.rt, &floors, MAX_NAMED_FLOORS_LEN)?;
@@ -143,7 +130,7 @@ fn level_named<'a, S: Alter + Drop, D: Database<S>>(
         alloc,
         place.me(),
         now,
-        named,
+        &named,
         key.as_slice(),
         &texts,
         database,
@@ -220,29 +207,5 @@ pub(crate) fn remake_named<'a, S: Alter + Drop, D: Database<S>, O: Write>(
     ) {
         Ok(_store) => Ok(()),
         Err(fault) => Err(with_named_paths(&former.floors, fault)),
-    }
-}
-
-/// Does an act on the store of the member `node`.
-pub(crate) fn act<'a, S: Alter + Drop, D: Database<S>, O: Write>(
-    site: &Site<'_, 'a>,
-    database: D,
-    node: u8,
-    act: NamedAct<'a>,
-    held: &mut O,
-) -> Result<(), Fault<'a>>
-    requires { IsNode node }
-    ensures { IfOk result (λ _. IsActDone S.Store D.finds node act.entry site.now.cluster.now
-        (O.contents held.old) (O.contents held.new)) }
-{
-    let (settings, place, named) = site.member(node)?;
-    match act {
-        NamedAct::Begin => begin(site, database, settings, place, &named, held),
-        NamedAct::Roster => roster_named(site, database, settings, place, &named, held),
-        NamedAct::DropRetired => drop_named(site, database, settings, place, &named, held),
-        NamedAct::Migrate { members_were } => {
-            migrate_named(site, database, settings, place, &named, members_were)
-        }
-        NamedAct::Level { floors } => level_named(site, database, settings, place, &named, floors),
     }
 }

@@ -1,4 +1,4 @@
-//! Carries out the commands over a stopped store without names.
+//! Carries out the commands over a stopped store that create, upgrade or level it, or print its floors.
 
 ghost use Rattle.oathd_database.specs.declared.fault.Fault.TheVariants as database;
 ghost use Rattle.oathd_site.specs.declared.names.NamesFault.TheVariants as names;
@@ -6,11 +6,12 @@ ghost use Rattle.std.specs.Prelude.{◌≡◌, ◌≢◌, ◌<◌, ◌≤◌, No
 ghost use Rattle.floor_sql.specs.Usable.{IsNode};
 ghost use Rattle.otp_core.specs.Range.{IsMoment};
 ghost use Rattle.cluster_file.specs.ClusterFile.{cluster_value};
-ghost use Rattle.oathd_words.specs.declared.store_words.Action.TheVariants.{Floors, Init, Level, Migrate, Remake};
-ghost use Rattle.oathd_acts.specs.Plain.{AreFloorsTold, AreMembersFloorsTold, IsCreated, IsLevelled, IsMemberCreated, IsMemberReplaced, IsMomentOf, IsReplaced, IsReplacedSo};
+ghost use Rattle.oathd_words.specs.StoreWords.{IsNodeInRange};
+ghost use Rattle.oathd_words.specs.declared.store_words.Action.TheVariants.{Floors, Init, Remake};
+ghost use Rattle.oathd_acts.specs.Plain.{AreFloorsTold, AreMembersFloorsTold, IsCreated, IsLevelled, IsLevelledBy, IsMemberCreated, IsMemberReplaced, IsMigrated, IsMigratedBy, IsMomentOf, IsReplaced, IsReplacedSo};
 ghost use Rattle.oathd_acts.specs.Acting.{IsStoppedDone};
 
-use crate::named::{floors_by_names, remake_named};
+use crate::named::{floors_by_names, level_named, migrate_named, remake_named};
 use cluster_file::Cluster;
 use floor_sql::SqlStore;
 use floors_file::MAX_FLOORS_LEN;
@@ -23,7 +24,7 @@ use oathd_site::{
     users_text, with_paths,
 };
 use oathd_tasks::{cluster_in, cluster_key, member_place};
-use oathd_words::{CountWords, FormerWords, ImportWords};
+use oathd_words::{CountWords, FormerWords, ImportWords, Owner};
 use otp_core::Settings;
 use sqlite::Alter;
 use std::io::{self, Write};
@@ -233,16 +234,33 @@ pub(crate) fn remake<'a, S: Alter + Drop, D: Database<S>, O: Write>(
     }
 }
 
-/// Upgrades the store to the current format.
-pub(crate) fn migrate<'a, S: Alter + Drop, D: Database<S>>(
+/// Upgrades the store of a node without names to the current format.
+fn migrate_numbered<'a, S: Alter + Drop, D: Database<S>>(
     site: &Site<'_, 'a>,
     database: D,
     node: u8,
 ) -> Result<(), Fault<'a>>
-    ensures { IfOk result (λ _. IsStoppedDone S.Store D.finds (Migrate node) site.now.cluster.now None None) }
+    ensures { IfOk result (λ _. IsMigrated S.Store D.finds node) }
 {
     let _conn = migrate_store(site.alloc, site.users_alone()?, node, database)?;
     Ok(())
+}
+
+/// Upgrades the store to the current format, by names if its owner has a cluster file.
+pub(crate) fn migrate<'a, S: Alter + Drop, D: Database<S>>(
+    site: &Site<'_, 'a>,
+    database: D,
+    owner: Owner<'a>,
+    members_were: Option<u8>,
+) -> Result<(), Fault<'a>>
+    requires { IsNodeInRange owner }
+    ensures { IfOk result (λ _. IsMigratedBy S.Store D.finds owner.entry members_were site.now.cluster.now) }
+{
+    match owner {
+        Owner::Any => unreachable!(),
+        Owner::Node(node) => migrate_numbered(site, database, node),
+        Owner::Member { node, .. } => migrate_named(site, database, node, members_were),
+    }
 }
 
 /// Prints the floors file of the store of a node of `members` members.
@@ -321,15 +339,14 @@ fn level_by<'a, S: Alter + Drop, D: Database<S>>(
     }
 }
 
-/// Raises the floors of a node (floor: the first free factor) to the greatest in floors files.
-pub(crate) fn level<'a, S: Alter + Drop, D: Database<S>>(
+/// Raises the floors of a node without names to the greatest in floors files.
+fn level_numbered<'a, S: Alter + Drop, D: Database<S>>(
     site: &Site<'_, 'a>,
     database: D,
     node: u8,
     floors: Vec<&'a str>,
 ) -> Result<(), Fault<'a>>
-    ensures { IfOk result (λ _. IsStoppedDone S.Store D.finds (Level node floors.entry) site.now.cluster.now
-        None None) }
+    ensures { IfOk result (λ _. IsLevelled S.Store D.finds node (length floors.entry.items)) }
 {
     let (alloc, rt) = (site.alloc, site.rt);
     let users = users_text(alloc, rt, site.users, Settings::default(), 0)?;
@@ -340,5 +357,24 @@ pub(crate) fn level<'a, S: Alter + Drop, D: Database<S>>(
             let _users = read_users(alloc, users.as_slice(), Settings::default(), 0)?;
             Err(fault)
         }
+    }
+}
+
+/// Raises the floors of the store (floor: the first free factor) to the greatest in floors files, by names if its
+/// owner has a cluster file.
+pub(crate) fn level<'a, S: Alter + Drop, D: Database<S>>(
+    site: &Site<'_, 'a>,
+    database: D,
+    owner: Owner<'a>,
+    floors: Vec<&'a str>,
+) -> Result<(), Fault<'a>>
+    requires { IsNodeInRange owner }
+    ensures { IfOk result (λ _. IsLevelledBy S.Store D.finds owner.entry (length floors.entry.items)
+        site.now.cluster.now) }
+{
+    match owner {
+        Owner::Any => unreachable!(),
+        Owner::Node(node) => level_numbered(site, database, node, floors),
+        Owner::Member { node, .. } => level_named(site, database, node, floors),
     }
 }

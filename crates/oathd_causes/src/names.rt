@@ -2,7 +2,7 @@
 
 use cluster_file::{KeySource, read_cluster};
 use oathd_site::FilesBefore;
-use oathd_words::{Action, ClientWords, ClusterWords, NamedAct, Task};
+use oathd_words::{Action, ClientWords, ClusterWords, Owner, Task};
 use std::alloc::Global;
 use std::net::SocketAddrV4;
 use std::str;
@@ -63,30 +63,30 @@ impl<'a> Names<'a> {
     /// Adds the names in `action`.
     fn with_action(self, action: &Action<'a>) -> Self {
         match action {
-            Action::Init { node, .. } | Action::Remake { node, .. } => Names {
-                node: Some(*node),
-                is_new: true,
-                ..self
-            },
+            Action::Init { node, .. } | Action::Begin { node, .. } | Action::Remake { node, .. } =>
+                {
+                    Names {
+                        node: Some(*node),
+                        is_new: true,
+                        ..self
+                    }
+                }
             Action::Serve {
                 cluster,
                 clients,
                 ..
             } => self.with_cluster(cluster).with_clients(*clients),
-            Action::Migrate { node } | Action::Floors { node, .. } | Action::Level { node, .. } => {
-                Names {
-                    node: Some(*node),
-                    ..self
-                }
-            }
-            Action::Look { owner, .. } => Names {
+            Action::Roster { node, .. } | Action::Floors { node, .. } => Names {
+                node: Some(*node),
+                ..self
+            },
+            Action::Look { owner, .. } | Action::Level { owner, .. } => Names {
                 node: owner.node(),
                 ..self
             },
-            Action::Named { node, act, .. } => Names {
-                node: Some(*node),
-                is_new: matches!(act, NamedAct::Begin),
-                is_naming: matches!(act, NamedAct::Migrate { .. }),
+            Action::Migrate { owner, .. } => Names {
+                node: owner.node(),
+                is_naming: matches!(owner, Owner::Member { .. }),
                 ..self
             },
         }

@@ -8,15 +8,12 @@ use Rattle.otp_core.specs.Limits.{Limits}
 use Rattle.vote_core.specs.NodeSet.{PlaceRecord}
 use Rattle.oathd_words.specs.Members.{AreMembers, SayAddresses, parts_of}
 use Rattle.oathd_words.specs.Given.{GivesLimits, GivesMember}
-use Rattle.oathd_words.specs.StoreWords.{AsksForAct, AsksForAction, AsksForCluster, AsksForLog, AsksForLook, GivesPlace, turns_given}
+use Rattle.oathd_words.specs.StoreWords.{AsksForAction, AsksForCluster, AsksForLog, AsksForLook, GivesPlace, turns_given}
 use Rattle.oathd_words.specs.declared.store_words.Action.{Action}
-use Rattle.oathd_words.specs.declared.store_words.Action.TheVariants as actions
-use Rattle.oathd_words.specs.declared.store_words.Action.TheVariants.{Init, Remake, Serve, Look as Looks, Migrate, Floors, Level}
+use Rattle.oathd_words.specs.declared.store_words.Action.TheVariants.{Init, Begin, Remake, Serve, Look as Looks, Roster, Migrate, Floors, Level}
 use Rattle.oathd_words.specs.declared.store_words.LogWords.{LogWords}
 use Rattle.oathd_words.specs.declared.store_words.Look.{Look}
 use Rattle.oathd_words.specs.declared.store_words.Look.TheVariants.{Export, Audit, Gates, Unlock}
-use Rattle.oathd_words.specs.declared.store_words.NamedAct.{NamedAct}
-use Rattle.oathd_words.specs.declared.store_words.NamedAct.TheVariants as acts
 use Rattle.oathd_words.specs.declared.store_words.ClusterWords.{ClusterWords}
 use Rattle.oathd_words.specs.declared.store_words.ClusterWords.TheVariants.{Given, Named}
 use Rattle.oathd_words.proofs.MembersLemmas.{says_unique}
@@ -60,43 +57,38 @@ module _ (found : Found) where
   no_look Gates asks = apart (codes "serve") _ _ asks refl (lit< tt)
   no_look (Unlock user) asks = apart (codes "serve") _ _ refl asks.0 (lit< tt)
 
-  -- a store by names is served by no act on it
-  no_act : (act : NamedAct) → AsksForAct (codes "serve") found act → ⊥
-  no_act acts.Begin asks = apart (codes "serve") _ _ asks.0 refl (lit< tt)
-  no_act acts.Roster asks = apart (codes "serve") _ _ asks.0 refl (lit< tt)
-  no_act acts.DropRetired asks = apart (codes "serve") _ _ asks.0 refl (lit< tt)
-  no_act (acts.Migrate members) asks = apart (codes "serve") _ _ asks.0 refl (lit< tt)
-  no_act (acts.Level floors) asks = apart (codes "serve") _ _ asks.0 refl (lit< tt)
-
   -- if no cluster is asked for, no action is
   pub no_cluster : ((cluster : ClusterWords) → AsksForCluster found cluster → ⊥) → (action : Action) → AsksForAction (codes "serve") found action → ⊥
   no_cluster none (Init node settings moment) asks = apart (codes "serve") _ _ asks.0 refl (lit< tt)
+  no_cluster none (Begin node path) asks = apart (codes "serve") _ _ asks.0 refl (lit< tt)
   no_cluster none (Remake node settings moment former) asks = apart (codes "serve") _ _ asks.0 refl (lit< tt)
   no_cluster none (Serve cluster turns log clients reloads) asks = none cluster asks.1
   no_cluster none (Looks owner look) asks = no_look look asks.0
-  no_cluster none (Migrate node) asks = apart (codes "serve") _ _ asks.0 refl (lit< tt)
+  no_cluster none (Roster node path drops) asks = apart (codes "serve") _ _ asks.0 refl (lit< tt)
+  no_cluster none (Migrate owner members) asks = apart (codes "serve") _ _ asks.0 refl (lit< tt)
   no_cluster none (Floors node count) asks = apart (codes "serve") _ _ asks.0 refl (lit< tt)
-  no_cluster none (Level node floors) asks = apart (codes "serve") _ _ asks.0 refl (lit< tt)
-  no_cluster none (actions.Named node path act) asks = no_act act asks.2
+  no_cluster none (Level owner floors) asks = apart (codes "serve") _ _ asks.0 refl (lit< tt)
 
   -- if `turns_given` is None, no action is asked for
   pub no_turns : turns_given found ≡ None → (action : Action) → AsksForAction (codes "serve") found action → ⊥
   no_turns none (Init node settings moment) asks = apart (codes "serve") _ _ asks.0 refl (lit< tt)
+  no_turns none (Begin node path) asks = apart (codes "serve") _ _ asks.0 refl (lit< tt)
   no_turns none (Remake node settings moment former) asks = apart (codes "serve") _ _ asks.0 refl (lit< tt)
   no_turns none (Serve cluster turns log clients reloads) asks = let clash = sym none ∙ asks.2 in absurd cc
   no_turns none (Looks owner look) asks = no_look look asks.0
-  no_turns none (Migrate node) asks = apart (codes "serve") _ _ asks.0 refl (lit< tt)
+  no_turns none (Roster node path drops) asks = apart (codes "serve") _ _ asks.0 refl (lit< tt)
+  no_turns none (Migrate owner members) asks = apart (codes "serve") _ _ asks.0 refl (lit< tt)
   no_turns none (Floors node count) asks = apart (codes "serve") _ _ asks.0 refl (lit< tt)
-  no_turns none (Level node floors) asks = apart (codes "serve") _ _ asks.0 refl (lit< tt)
-  no_turns none (actions.Named node path act) asks = no_act act asks.2
+  no_turns none (Level owner floors) asks = apart (codes "serve") _ _ asks.0 refl (lit< tt)
 
   -- if no log is asked for, no action is
   pub no_log : ((log : LogWords) → AsksForLog found log → ⊥) → (action : Action) → AsksForAction (codes "serve") found action → ⊥
   no_log none (Init node settings moment) asks = apart (codes "serve") _ _ asks.0 refl (lit< tt)
+  no_log none (Begin node path) asks = apart (codes "serve") _ _ asks.0 refl (lit< tt)
   no_log none (Remake node settings moment former) asks = apart (codes "serve") _ _ asks.0 refl (lit< tt)
   no_log none (Serve cluster turns log clients reloads) asks = none log asks.3
   no_log none (Looks owner look) asks = no_look look asks.0
-  no_log none (Migrate node) asks = apart (codes "serve") _ _ asks.0 refl (lit< tt)
+  no_log none (Roster node path drops) asks = apart (codes "serve") _ _ asks.0 refl (lit< tt)
+  no_log none (Migrate owner members) asks = apart (codes "serve") _ _ asks.0 refl (lit< tt)
   no_log none (Floors node count) asks = apart (codes "serve") _ _ asks.0 refl (lit< tt)
-  no_log none (Level node floors) asks = apart (codes "serve") _ _ asks.0 refl (lit< tt)
-  no_log none (actions.Named node path act) asks = no_act act asks.2
+  no_log none (Level owner floors) asks = apart (codes "serve") _ _ asks.0 refl (lit< tt)

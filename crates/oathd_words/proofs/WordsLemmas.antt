@@ -1,7 +1,6 @@
 -- What the words of a command don't ask for.
-use Rattle.std.proofs.Common.{◌≡◌, ℕ, ◌+◌, ◌*◌, ◌<◌, Bool, true, false, List, [], ◌∷◌, Option, Some, None, length, slice_index, refl, sym, ap, subst, ◌∙◌, lit<, arith}
+use Rattle.std.proofs.Common.{◌≡◌, ℕ, ◌+◌, ◌*◌, ◌<◌, Bool, true, false, not, List, [], ◌∷◌, Option, Some, None, length, slice_index, refl, sym, ap, subst, ◌∙◌, lit<, arith}
 use Rattle.std.specs.Prelude.{IfNone, codes}
-use Rattle.std.specs.Borrow.{Bor}
 use Rattle.std.specs.List.{list_any}
 use Rattle.std.specs.Str.{bytes_eq}
 use Rattle.std.proofs.lemmas.Bool.{false≢true}
@@ -12,19 +11,17 @@ use Rattle.std.specs.declared.net.socket_addr.SocketAddrV4.{SocketAddrV4}
 use Rattle.oathd_words.specs.Given.{GivesMember, is_flag}
 use Rattle.oathd_words.specs.InquiryWords.{AsksForInquiry, AsksMembers, AsksNode, GivesAddress}
 use Rattle.oathd_words.specs.NodesWords.{AsksForNodes}
-use Rattle.oathd_words.specs.StoreWords.{AsksForAct, AsksForAction, AsksForLog, AsksForLook, AsksForStore, GivesMoment, GivesOwner}
+use Rattle.oathd_words.specs.StoreWords.{AsksForAction, AsksForLog, AsksForLook, AsksForStore, GivesMoment, GivesOwner, is_of_node}
 use Rattle.oathd_words.specs.Words.{AsksForNothing, AsksToCheck}
 use Rattle.oathd_words.specs.declared.inquiry_words.Inquiry.{Inquiry}
 use Rattle.oathd_words.specs.declared.inquiry_words.Inquiry.TheVariants as inquiries
 use Rattle.oathd_words.specs.declared.nodes_words.NodesWords.{NodesWords}
 use Rattle.oathd_words.specs.declared.store_words.Action.{Action}
-use Rattle.oathd_words.specs.declared.store_words.Action.TheVariants.{Init, Remake, Serve, Look as Looks, Migrate, Floors, Level, Named}
+use Rattle.oathd_words.specs.declared.store_words.Action.TheVariants.{Init, Begin, Remake, Serve, Look as Looks, Roster, Migrate, Floors, Level}
 use Rattle.oathd_words.specs.declared.store_words.LogWords.{LogWords}
 use Rattle.oathd_words.specs.declared.store_words.LogWords.TheVariants.{Nowhere, Output, Syslog}
 use Rattle.oathd_words.specs.declared.store_words.Look.{Look}
 use Rattle.oathd_words.specs.declared.store_words.Look.TheVariants.{Export, Audit, Gates, Unlock}
-use Rattle.oathd_words.specs.declared.store_words.NamedAct.{NamedAct}
-use Rattle.oathd_words.specs.declared.store_words.NamedAct.TheVariants as acts
 use Rattle.oathd_words.specs.declared.store_words.Owner.{Owner}
 use Rattle.oathd_words.specs.declared.store_words.Owner.TheVariants as owners
 use Rattle.oathd_words.specs.declared.words.Task.TheVariants.{Lines, Sim, Cluster, Store, Ask, Survey, Check, NewKey, NewCluster, Secret, SecretOfInput}
@@ -47,24 +44,17 @@ look_name Audit = codes "audit"
 look_name Gates = codes "gates"
 look_name (Unlock user) = codes "unlock"
 
--- the name of the command that does this with a store by names
-abbrev act_name : NamedAct → List ℕ
-act_name acts.Begin = codes "init"
-act_name acts.Roster = codes "roster"
-act_name acts.DropRetired = codes "roster"
-act_name (acts.Migrate members) = codes "migrate"
-act_name (acts.Level floors) = codes "level"
-
 -- the name of the command that does this with a store
 abbrev action_name : Action → List ℕ
 action_name (Init node import moment) = codes "init"
+action_name (Begin node path) = codes "init"
 action_name (Remake node import moment former) = codes "init"
 action_name (Serve cluster turns log clients reloads) = codes "serve"
 action_name (Looks owner look) = look_name look
-action_name (Migrate node) = codes "migrate"
+action_name (Roster node path drops) = codes "roster"
+action_name (Migrate owner members) = codes "migrate"
 action_name (Floors node count) = codes "floors"
-action_name (Level node floors) = codes "level"
-action_name (Named node path act) = act_name act
+action_name (Level owner floors) = codes "level"
 
 abbrev is_store_name : List ℕ → Bool
 is_store_name name = list_any (bytes_eq name) (codes "init" ∷ codes "serve" ∷ codes "export" ∷ codes "audit" ∷ codes "migrate" ∷ codes "floors"
@@ -76,22 +66,16 @@ look_stored Audit = refl
 look_stored Gates = refl
 look_stored (Unlock user) = refl
 
-act_stored : (act : NamedAct) → is_store_name (act_name act) ≡ true
-act_stored acts.Begin = refl
-act_stored acts.Roster = refl
-act_stored acts.DropRetired = refl
-act_stored (acts.Migrate members) = refl
-act_stored (acts.Level floors) = refl
-
 store_named : (action : Action) → is_store_name (action_name action) ≡ true
 store_named (Init node import moment) = refl
+store_named (Begin node path) = refl
 store_named (Remake node import moment former) = refl
 store_named (Serve cluster turns log clients reloads) = refl
 store_named (Looks owner look) = look_stored look
-store_named (Migrate node) = refl
+store_named (Roster node path drops) = refl
+store_named (Migrate owner members) = refl
 store_named (Floors node count) = refl
-store_named (Level node floors) = refl
-store_named (Named node path act) = act_stored act
+store_named (Level owner floors) = refl
 
 look_so : (name : List ℕ) (found : Found) (look : Look) → AsksForLook name found look → name ≡ look_name look
 look_so name found Export asks = asks
@@ -99,23 +83,17 @@ look_so name found Audit asks = asks
 look_so name found Gates asks = asks
 look_so name found (Unlock user) asks = asks.0
 
-act_so : (name : List ℕ) (found : Found) (act : NamedAct) → AsksForAct name found act → name ≡ act_name act
-act_so name found acts.Begin asks = asks.0
-act_so name found acts.Roster asks = asks.0
-act_so name found acts.DropRetired asks = asks.0
-act_so name found (acts.Migrate members) asks = asks.0
-act_so name found (acts.Level floors) asks = asks.0
-
 -- an action is asked for by its command
 pub named_so : (name : List ℕ) (found : Found) (action : Action) → AsksForAction name found action → name ≡ action_name action
 named_so name found (Init node import moment) asks = asks.0
+named_so name found (Begin node path) asks = asks.0
 named_so name found (Remake node import moment former) asks = asks.0
 named_so name found (Serve cluster turns log clients reloads) asks = asks.0
 named_so name found (Looks owner look) asks = look_so name found look asks.0
-named_so name found (Migrate node) asks = asks.0
+named_so name found (Roster node path drops) asks = asks.0
+named_so name found (Migrate owner members) asks = asks.0
 named_so name found (Floors node count) asks = asks.0
-named_so name found (Level node floors) asks = asks.0
-named_so name found (Named node path act) asks = act_so name found act asks.2
+named_so name found (Level owner floors) asks = asks.0
 
 -- a command with another name asks for none
 no_store : (name other : List ℕ) (found : Found) → name ≡ other → is_store_name other ≡ false → (action : Action) → AsksForAction name found action → ⊥
@@ -260,37 +238,54 @@ module _ (name : List ℕ) (found : Found) where
 pub no_init_node : (found : Found) → ((number : ℕ) → GivesMember found (codes "node") number → ⊥) → (action : Action)
     → AsksForAction (codes "init") found action → ⊥
 no_init_node found none (Init node import moment) asks = none node asks.3
+no_init_node found none (Begin node path) asks = none node asks.4
 no_init_node found none (Remake node import moment former) asks = none node asks.3
 no_init_node found none (Serve cluster turns log clients reloads) asks = apart (codes "init") _ _ refl asks.0 (lit< tt)
 no_init_node found none (Looks owner Export) asks = apart (codes "init") _ _ asks.0 refl (lit< tt)
 no_init_node found none (Looks owner Audit) asks = apart (codes "init") _ _ asks.0 refl (lit< tt)
 no_init_node found none (Looks owner Gates) asks = apart (codes "init") _ _ asks.0 refl (lit< tt)
 no_init_node found none (Looks owner (Unlock user)) asks = apart (codes "init") _ _ refl asks.0.0 (lit< tt)
-no_init_node found none (Migrate node) asks = apart (codes "init") _ _ refl asks.0 (lit< tt)
+no_init_node found none (Roster node path drops) asks = apart (codes "init") _ _ refl asks.0 (lit< tt)
+no_init_node found none (Migrate owner members) asks = apart (codes "init") _ _ refl asks.0 (lit< tt)
 no_init_node found none (Floors node count) asks = apart (codes "init") _ _ asks.0 refl (lit< tt)
-no_init_node found none (Level node floors) asks = apart (codes "init") _ _ refl asks.0 (lit< tt)
-no_init_node found none (Named node path act) asks = none node asks.0
+no_init_node found none (Level owner floors) asks = apart (codes "init") _ _ refl asks.0 (lit< tt)
 
--- without an owner nothing is asked for by `unlock`
-pub no_owner : (found : Found) (user : Bor (List ℕ)) → ((owner : Owner) → GivesOwner found (Unlock user) owner → ⊥) → (action : Action)
-    → AsksForAction (codes "unlock") found action → ⊥
-no_owner found user none (Init node import moment) asks = apart (codes "unlock") _ _ asks.0 refl (lit< tt)
-no_owner found user none (Remake node import moment former) asks = apart (codes "unlock") _ _ asks.0 refl (lit< tt)
-no_owner found user none (Serve cluster turns log clients reloads) asks = apart (codes "unlock") _ _ asks.0 refl (lit< tt)
-no_owner found user none (Looks owner Export) asks = apart (codes "unlock") _ _ asks.0 refl (lit< tt)
-no_owner found user none (Looks owner Audit) asks = apart (codes "unlock") _ _ asks.0 refl (lit< tt)
-no_owner found user none (Looks owner Gates) asks = apart (codes "unlock") _ _ asks.0 refl (lit< tt)
-no_owner found user none (Looks owners.Any (Unlock other)) asks = none owners.Any asks.1
-no_owner found user none (Looks (owners.Node node) (Unlock other)) asks = none (owners.Node node) asks.1
-no_owner found user none (Looks (owners.Member node path) (Unlock other)) asks = none (owners.Member node path) asks.1
-no_owner found user none (Migrate node) asks = apart (codes "unlock") _ _ asks.0 refl (lit< tt)
-no_owner found user none (Floors node count) asks = apart (codes "unlock") _ _ asks.0 refl (lit< tt)
-no_owner found user none (Level node floors) asks = apart (codes "unlock") _ _ asks.0 refl (lit< tt)
-no_owner found user none (Named node path acts.Begin) asks = apart (codes "unlock") _ _ asks.2.0 refl (lit< tt)
-no_owner found user none (Named node path acts.Roster) asks = apart (codes "unlock") _ _ asks.2.0 refl (lit< tt)
-no_owner found user none (Named node path acts.DropRetired) asks = apart (codes "unlock") _ _ asks.2.0 refl (lit< tt)
-no_owner found user none (Named node path (acts.Migrate members)) asks = apart (codes "unlock") _ _ asks.2.0 refl (lit< tt)
-no_owner found user none (Named node path (acts.Level floors)) asks = apart (codes "unlock") _ _ asks.2.0 refl (lit< tt)
+-- ---- The commands that look at a store
+
+abbrev is_look_name : List ℕ → Bool
+is_look_name name = list_any (bytes_eq name) (codes "export" ∷ codes "audit" ∷ codes "gates" ∷ codes "unlock" ∷ [])
+
+look_named : (look : Look) → is_look_name (look_name look) ≡ true
+look_named Export = refl
+look_named Audit = refl
+look_named Gates = refl
+look_named (Unlock user) = refl
+
+no_look_name : (look : Look) (name : List ℕ) → look_name look ≡ name → is_look_name name ≡ false → ⊥
+no_look_name look name is others = false≢true (sym others ∙ ap is_look_name (sym is) ∙ look_named look)
+
+of_node_named : (look : Look) → is_of_node look ≡ not (bytes_eq (look_name look) (codes "export"))
+of_node_named Export = refl
+of_node_named Audit = refl
+of_node_named Gates = refl
+of_node_named (Unlock user) = refl
+
+-- without an owner nothing is asked for by such a command
+pub no_owner : (found : Found) (look : Look) → ((owner : Owner) → GivesOwner found (is_of_node look) owner → ⊥) → (action : Action)
+    → AsksForAction (look_name look) found action → ⊥
+no_owner found look none (Looks owner other) asks =
+    let same : look_name look ≡ look_name other = look_so (look_name look) found other asks.0 in
+    let alike : is_of_node other ≡ is_of_node look =
+    of_node_named other ∙ ap (λ (name : List ℕ). not (bytes_eq name (codes "export"))) (sym same) ∙ sym (of_node_named look) in
+    none owner (subst (λ (b : Bool). GivesOwner found b owner) alike asks.1)
+no_owner found look none (Init node import moment) asks = no_look_name look (codes "init") asks.0 refl
+no_owner found look none (Begin node path) asks = no_look_name look (codes "init") asks.0 refl
+no_owner found look none (Remake node import moment former) asks = no_look_name look (codes "init") asks.0 refl
+no_owner found look none (Serve cluster turns log clients reloads) asks = no_look_name look (codes "serve") asks.0 refl
+no_owner found look none (Roster node path drops) asks = no_look_name look (codes "roster") asks.0 refl
+no_owner found look none (Migrate owner members) asks = no_look_name look (codes "migrate") asks.0 refl
+no_owner found look none (Floors node count) asks = no_look_name look (codes "floors") asks.0 refl
+no_owner found look none (Level owner floors) asks = no_look_name look (codes "level") asks.0 refl
 
 -- a claim that holds without a result gives what follows from it
 pub none_then : {A : Type 0} (result : Option A) (P Q : Type 0) → IfNone result P → (P → Q) → IfNone result Q

@@ -1,5 +1,5 @@
 -- Minimal examples and counterexamples of the command line's ranges and promises. No contract cites them.
-use Rattle.std.specs.Prelude.{ℕ, ◌+◌, false, List, [], ◌∷◌, ◌++◌, Option, None, codes}
+use Rattle.std.specs.Prelude.{ℕ, ◌+◌, false, true, List, [], ◌∷◌, ◌++◌, Option, None, Some, codes}
 use Rattle.std.specs.Borrow.{Bor}
 use Rattle.std.specs.Global.{Vec}
 use Rattle.std.specs.declared.net.socket_addr.SocketAddrV4.{SocketAddrV4}
@@ -11,14 +11,13 @@ use Rattle.oathd_words.specs.declared.nodes_words.NodesWords.{NodesWords}
 use Rattle.oathd_words.specs.declared.nodes_words.NodesWords.TheVariants as nodes
 use Rattle.oathd_words.specs.declared.store_words.Action.{Action}
 use Rattle.oathd_words.specs.declared.store_words.ClientWords.TheVariants.{Anybody, ThisMachine}
-use Rattle.oathd_words.specs.declared.store_words.Action.TheVariants as actions
-use Rattle.oathd_words.specs.declared.store_words.Action.TheVariants.{Init, Remake, Serve, Look as Looks, Floors, Level}
+use Rattle.oathd_words.specs.declared.store_words.Action.TheVariants.{Init, Begin, Remake, Serve, Look as Looks, Roster, Migrate, Floors, Level}
 use Rattle.oathd_words.specs.declared.store_words.ClusterWords.{ClusterWords}
 use Rattle.oathd_words.specs.declared.store_words.ClusterWords.TheVariants as clusters
 use Rattle.oathd_words.specs.declared.store_words.ImportWords.TheVariants as imports
 use Rattle.oathd_words.specs.declared.store_words.LogWords.TheVariants.{Nowhere}
 use Rattle.oathd_words.specs.declared.store_words.Look.{Look}
-use Rattle.oathd_words.specs.declared.store_words.NamedAct.{NamedAct}
+use Rattle.oathd_words.specs.declared.store_words.Owner.{Owner}
 use Rattle.oathd_words.specs.declared.store_words.Owner.TheVariants as owners
 use Rattle.oathd_words.specs.declared.words.Task.{Task}
 use Rattle.oathd_words.specs.declared.words.Task.TheVariants as tasks
@@ -70,6 +69,10 @@ init_at moment node = Init node (imports.Named file) moment
 abbrev pub usual_init : Action
 usual_init = Init 1 (imports.Given default_limits) None
 
+-- a creation by names with the cluster file, for a cluster that never served
+abbrev pub begin_at : ℕ → Action
+begin_at node = Begin node file
+
 -- a replacement by the cluster file
 abbrev pub remake_at : Option ℕ → FormerWords → ℕ → Action
 remake_at moment former node = Remake node (imports.Named file) moment former
@@ -93,23 +96,40 @@ floors_of node = Floors node (counts.Given 9)
 abbrev pub floors_by_file : Action
 floors_by_file = Floors 1 (counts.Named file)
 
+-- the store of a node, and that of a member of the cluster file
+abbrev pub at_node : ℕ → Owner
+at_node node = owners.Node node
+
+abbrev pub at_member : ℕ → Owner
+at_member node = owners.Member node file
+
 -- floors (first free factors) raised by floors files
-abbrev pub level_by : Vec (Bor (List ℕ)) → ℕ → Action
-level_by floors node = Level node floors
+abbrev pub level_by : Vec (Bor (List ℕ)) → Owner → Action
+level_by floors owner = Level owner floors
+
+-- an upgrade, without the number of members or with it
+abbrev pub migrate_at : Owner → Action
+migrate_at owner = Migrate owner None
+
+abbrev pub migrate_among : ℕ → Owner → Action
+migrate_among members owner = Migrate owner (Some members)
+
+-- rows by names with the cluster file: printed, or dropped
+abbrev pub roster_at : ℕ → Action
+roster_at node = Roster node file false
+
+abbrev pub drop_at : ℕ → Action
+drop_at node = Roster node file true
 
 -- a look at the store of a node, of any, or of a member of the cluster file
 abbrev pub look_at : Look → ℕ → Action
-look_at look node = Looks (owners.Node node) look
+look_at look node = Looks (at_node node) look
 
 abbrev pub look_at_any : Look → Action
 look_at_any look = Looks owners.Any look
 
 abbrev pub look_at_member : Look → ℕ → Action
-look_at_member look node = Looks (owners.Member node file) look
-
--- an action on a store by names, with the cluster file
-abbrev pub named_by : NamedAct → ℕ → Action
-named_by act node = actions.Named node file act
+look_at_member look node = Looks (at_member node) look
 
 -- ---- Tasks
 

@@ -22,12 +22,9 @@ use Rattle.oathd_words.specs.declared.store_words.ImportWords.{ImportWords}
 use Rattle.oathd_words.specs.declared.store_words.ImportWords.TheVariants as imports
 use Rattle.oathd_words.specs.declared.store_words.LogWords.{LogWords}
 use Rattle.oathd_words.specs.declared.store_words.LogWords.TheVariants.{Nowhere, Output, Syslog}
-use Rattle.oathd_words.specs.declared.store_words.Action.TheVariants as actions
-use Rattle.oathd_words.specs.declared.store_words.Action.TheVariants.{Init, Remake, Serve, Look as Looks, Migrate, Floors, Level}
+use Rattle.oathd_words.specs.declared.store_words.Action.TheVariants.{Init, Begin, Remake, Serve, Look as Looks, Roster, Migrate, Floors, Level}
 use Rattle.oathd_words.specs.declared.store_words.Look.{Look}
 use Rattle.oathd_words.specs.declared.store_words.Look.TheVariants.{Export, Audit, Gates, Unlock}
-use Rattle.oathd_words.specs.declared.store_words.NamedAct.{NamedAct}
-use Rattle.oathd_words.specs.declared.store_words.NamedAct.TheVariants as acts
 use Rattle.oathd_words.specs.declared.store_words.Owner.{Owner}
 use Rattle.oathd_words.specs.declared.store_words.Owner.TheVariants as owners
 
@@ -131,6 +128,13 @@ abbrev pub GivesFormerCount : Found → Option ℕ → Type 0
 GivesFormerCount found None = first_value found (codes "members-were") ≡ None
 GivesFormerCount found (Some members) = GivesMember found (codes "members-were") members
 
+-- the same as `migrate` takes it: only a member's cluster file comes with the option
+abbrev pub GivesFormerMembers : Found → Owner → Option ℕ → Type 0
+GivesFormerMembers found owners.Any members = (members ≡ None) × (first_value found (codes "members-were") ≡ None)
+GivesFormerMembers found (owners.Node node) members =
+    (members ≡ None) × (first_value found (codes "members-were") ≡ None)
+GivesFormerMembers found (owners.Member node path) members = GivesFormerCount found members
+
 -- whether the words of a command have to say whose store it is, without a cluster file too
 abbrev pub is_of_node : Look → Bool
 is_of_node Export = false
@@ -138,13 +142,13 @@ is_of_node Audit = true
 is_of_node Gates = true
 is_of_node (Unlock user) = true
 
--- Whose store a command looks at: a member's if there is a cluster file, else that of the node with the given number.
--- Without a cluster file `export` looks at the store of any node.
-abbrev pub GivesOwner : Found → Look → Owner → Type 0
-GivesOwner found look owners.Any = (is_of_node look ≡ false) × (first_value found (codes "cluster") ≡ None)
-GivesOwner found look (owners.Node node) =
-    (is_of_node look ≡ true) × GivesMember found (codes "node") node × (first_value found (codes "cluster") ≡ None)
-GivesOwner found look (owners.Member node path) =
+-- Whose store a command works on: a member's if there is a cluster file, else that of the node with the given number.
+-- Without a cluster file a command that isn't one of a node works on the store of any.
+abbrev pub GivesOwner : Found → Bool → Owner → Type 0
+GivesOwner found of_node owners.Any = (of_node ≡ false) × (first_value found (codes "cluster") ≡ None)
+GivesOwner found of_node (owners.Node node) =
+    (of_node ≡ true) × GivesMember found (codes "node") node × (first_value found (codes "cluster") ≡ None)
+GivesOwner found of_node (owners.Member node path) =
     GivesMember found (codes "node") node × (first_value found (codes "cluster") ≡ Some path.now)
 
 -- what the command `name` does with a store that it looks at
@@ -155,22 +159,15 @@ AsksForLook name found Gates = name ≡ codes "gates"
 AsksForLook name found (Unlock user) =
     (name ≡ codes "unlock") × (first_value found (codes "USER") ≡ Some user.now)
 
--- what the command `name` does to a store by names, with the values found beside its node and its cluster file
-abbrev pub AsksForAct : List ℕ → Found → NamedAct → Type 0
-AsksForAct name found acts.Begin =
-    (name ≡ codes "init") × (begins found ≡ true) × (is_of_former found ≡ false)
-    × (first_value found (codes "moment") ≡ None)
-AsksForAct name found acts.Roster = (name ≡ codes "roster") × (drops found ≡ false)
-AsksForAct name found acts.DropRetired = (name ≡ codes "roster") × (drops found ≡ true)
-AsksForAct name found (acts.Migrate members) = (name ≡ codes "migrate") × GivesFormerCount found members
-AsksForAct name found (acts.Level floors) =
-    (name ≡ codes "level") × (values_given found (codes "floors") ≡ Some (map (λ path. path.now) floors.items))
-
 -- the action that the command `name` asks for with the values found
 abbrev pub AsksForAction : List ℕ → Found → Action → Type 0
 AsksForAction name found (Init node import moment) =
     (name ≡ codes "init") × (begins found ≡ false) × (is_of_former found ≡ false)
     × GivesMember found (codes "node") node × AsksForImport found import × GivesMoment found moment
+AsksForAction name found (Begin node path) =
+    (name ≡ codes "init") × (begins found ≡ true) × (is_of_former found ≡ false)
+    × (first_value found (codes "moment") ≡ None) × GivesMember found (codes "node") node
+    × (first_value found (codes "cluster") ≡ Some path.now)
 AsksForAction name found (Remake node import moment former) =
     (name ≡ codes "init") × (begins found ≡ false) × (is_of_former found ≡ true)
     × GivesMember found (codes "node") node × AsksForImport found import × GivesMoment found moment
@@ -179,18 +176,18 @@ AsksForAction name found (Serve cluster turns log clients reloads) =
     (name ≡ codes "serve") × AsksForCluster found cluster × (turns_given found ≡ Some turns)
     × AsksForLog found log × AsksForClients found clients
     × (reloads ≡ is_flag (first_value found (codes "reload")))
-AsksForAction name found (Looks owner look) = AsksForLook name found look × GivesOwner found look owner
-AsksForAction name found (Migrate node) =
-    (name ≡ codes "migrate") × GivesMember found (codes "node") node × (first_value found (codes "cluster") ≡ None)
-    × (first_value found (codes "members-were") ≡ None)
+AsksForAction name found (Looks owner look) =
+    AsksForLook name found look × GivesOwner found (is_of_node look) owner
+AsksForAction name found (Roster node path dropping) =
+    (name ≡ codes "roster") × (dropping ≡ drops found) × GivesMember found (codes "node") node
+    × (first_value found (codes "cluster") ≡ Some path.now)
+AsksForAction name found (Migrate owner members) =
+    (name ≡ codes "migrate") × GivesOwner found true owner × GivesFormerMembers found owner members
 AsksForAction name found (Floors node count) =
     (name ≡ codes "floors") × GivesMember found (codes "node") node × AsksForCount found node count
-AsksForAction name found (Level node floors) =
-    (name ≡ codes "level") × GivesMember found (codes "node") node × (first_value found (codes "cluster") ≡ None)
+AsksForAction name found (Level owner floors) =
+    (name ≡ codes "level") × GivesOwner found true owner
     × (values_given found (codes "floors") ≡ Some (map (λ path. path.now) floors.items))
-AsksForAction name found (actions.Named node path act) =
-    GivesMember found (codes "node") node × (first_value found (codes "cluster") ≡ Some path.now)
-    × AsksForAct name found act
 
 -- an action with the paths of its database and its users file
 abbrev pub AsksForStore : List ℕ → Found → List ℕ → List ℕ → Action → Type 0
@@ -203,21 +200,28 @@ abbrev pub IsClusterInRange : ClusterWords → Type 0
 IsClusterInRange (Given settings place members key) = length members.items ≡ place.n
 IsClusterInRange (Named node path) = (1 ≤ node) × (node ≤ 9)
 
--- the number of a node whose store is looked at is in its range
+-- the number of a node whose store a command works on is in its range
 abbrev pub IsOwnerInRange : Owner → Type 0
 IsOwnerInRange owners.Any = Unit {0}
 IsOwnerInRange (owners.Node node) = (1 ≤ node) × (node ≤ 9)
 IsOwnerInRange (owners.Member node path) = (1 ≤ node) × (node ≤ 9)
 
+-- the words name a node, and its number is in its range
+abbrev pub IsNodeInRange : Owner → Type 0
+IsNodeInRange owners.Any = ⊥
+IsNodeInRange (owners.Node node) = (1 ≤ node) × (node ≤ 9)
+IsNodeInRange (owners.Member node path) = (1 ≤ node) × (node ≤ 9)
+
 -- the numbers of an action are in their ranges
 abbrev pub IsActionInRange : Action → Type 0
 IsActionInRange (Init node import None) = (1 ≤ node) × (node ≤ 9)
 IsActionInRange (Init node import (Some moment)) = (1 ≤ node) × (node ≤ 9) × IsMoment moment
+IsActionInRange (Begin node path) = (1 ≤ node) × (node ≤ 9)
 IsActionInRange (Remake node import None former) = (1 ≤ node) × (node ≤ 9)
 IsActionInRange (Remake node import (Some moment) former) = (1 ≤ node) × (node ≤ 9) × IsMoment moment
 IsActionInRange (Serve cluster turns log clients reloads) = IsClusterInRange cluster × (turns < 2 ^ 54)
 IsActionInRange (Looks owner look) = IsOwnerInRange owner
-IsActionInRange (Migrate node) = (1 ≤ node) × (node ≤ 9)
+IsActionInRange (Roster node path drops) = (1 ≤ node) × (node ≤ 9)
+IsActionInRange (Migrate owner members) = IsNodeInRange owner
 IsActionInRange (Floors node count) = (1 ≤ node) × (node ≤ 9)
-IsActionInRange (Level node floors) = (1 ≤ node) × (node ≤ 9)
-IsActionInRange (actions.Named node path act) = (1 ≤ node) × (node ≤ 9)
+IsActionInRange (Level owner floors) = IsNodeInRange owner

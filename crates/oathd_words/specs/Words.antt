@@ -10,8 +10,7 @@ use Rattle.oathd_words.specs.StoreWords.{AsksForStore, GivesMoment, IsActionInRa
 use Rattle.oathd_words.specs.declared.former_words.CountWords.{CountWords}
 use Rattle.oathd_words.specs.declared.former_words.CountWords.TheVariants as counts
 use Rattle.oathd_words.specs.declared.store_words.Action.{Action}
-use Rattle.oathd_words.specs.declared.store_words.Action.TheVariants as actions
-use Rattle.oathd_words.specs.declared.store_words.Action.TheVariants.{Init, Remake, Serve, Look as Looks, Migrate, Floors, Level}
+use Rattle.oathd_words.specs.declared.store_words.Action.TheVariants.{Init, Begin, Remake, Serve, Look as Looks, Roster, Migrate, Floors, Level}
 use Rattle.oathd_words.specs.declared.store_words.ClusterWords.{ClusterWords}
 use Rattle.oathd_words.specs.declared.store_words.ClusterWords.TheVariants.{Given, Named}
 use Rattle.oathd_words.specs.declared.store_words.ImportWords.{ImportWords}
@@ -79,22 +78,29 @@ abbrev pub count_path : CountWords → Option (List ℕ)
 count_path (counts.Given count) = None
 count_path (counts.Named path) = Some path.now
 
--- the path of the cluster file, if a member's store is looked at
+-- the path of the cluster file, if a command works on a member's store
 abbrev pub owner_path : Owner → Option (List ℕ)
 owner_path owners.Any = None
 owner_path (owners.Node node) = None
 owner_path (owners.Member node path) = Some path.now
 
+-- the number of the node whose store a command works on, if the words have one
+abbrev pub owner_node : Owner → Option ℕ
+owner_node owners.Any = None
+owner_node (owners.Node node) = Some node
+owner_node (owners.Member node path) = Some node
+
 -- the path of the cluster file that an action names, if it names one
 abbrev pub path_of_action : Action → Option (List ℕ)
 path_of_action (Init node import moment) = import_path import
+path_of_action (Begin node path) = Some path.now
 path_of_action (Remake node import moment former) = import_path import
 path_of_action (Serve cluster turns log clients reloads) = named_path cluster
 path_of_action (Looks owner look) = owner_path owner
-path_of_action (Migrate node) = None
+path_of_action (Roster node path drops) = Some path.now
+path_of_action (Migrate owner members) = owner_path owner
 path_of_action (Floors node count) = count_path count
-path_of_action (Level node floors) = None
-path_of_action (actions.Named node path act) = Some path.now
+path_of_action (Level owner floors) = owner_path owner
 
 -- the path of the cluster file that a task names, if it names one
 abbrev pub cluster_path_of : Task → Option (List ℕ)

@@ -3,7 +3,7 @@ ghost use Rattle.std.specs.Borrow.{Bor};
 ghost use Rattle.std.specs.Global.{Vec};
 ghost use Rattle.std.specs.declared.net.socket_addr.SocketAddrV4.{SocketAddrV4};
 ghost use Rattle.udp_port.specs.Examples.{at_host, at_local};
-ghost use Rattle.oathd_words.specs.Broken.{cluster_at, file, floors_by_file, floors_of, given_cluster, given_nodes, init_at, level_by, lines_at, local_text, local_texts, look_at, look_at_any, look_at_member, named_by, named_cluster, named_nodes, remake_at, serve_for, sim_at, store_of, usual_init, usual_remake, usual_serve, word};
+ghost use Rattle.oathd_words.specs.Broken.{at_member, at_node, begin_at, cluster_at, drop_at, file, floors_by_file, floors_of, given_cluster, given_nodes, init_at, level_by, lines_at, local_text, local_texts, look_at, look_at_any, look_at_member, migrate_among, migrate_at, named_cluster, named_nodes, remake_at, roster_at, serve_for, sim_at, store_of, usual_init, usual_remake, usual_serve, word};
 ghost use Rattle.clap.specs.Matches.{first_value};
 ghost use Rattle.clap.specs.declared.parser.matches.Found.{Found};
 ghost use Rattle.clap.specs.declared.parser.matches.MatchedArg.{MatchedArg};
@@ -11,16 +11,14 @@ ghost use Rattle.oathd_words.specs.FormerWords.{former_of, is_of_former, lost_sa
 ghost use Rattle.oathd_words.specs.Given.{GivesMember};
 ghost use Rattle.oathd_words.specs.Members.{AreMembers, SayAddresses, are_different};
 ghost use Rattle.oathd_words.specs.NodesWords.{AreNodesInRange};
-ghost use Rattle.oathd_words.specs.StoreWords.{AsksForAct, AsksForAction, AsksForClients, AsksForLog, AsksForLook, GivesOwner, IsActionInRange, IsClusterInRange, begins, has_log, is_of_node, takes_anybody};
-ghost use Rattle.oathd_words.specs.Words.{IsInRange, cluster_path_of, path_of_action};
+ghost use Rattle.oathd_words.specs.StoreWords.{AsksForAction, AsksForClients, AsksForLog, AsksForLook, GivesFormerMembers, GivesOwner, IsActionInRange, IsClusterInRange, IsNodeInRange, begins, drops, has_log, is_of_node, takes_anybody};
+ghost use Rattle.oathd_words.specs.Words.{IsInRange, cluster_path_of, owner_node, path_of_action};
 ghost use Rattle.oathd_words.specs.declared.former_words.FormerWords.{FormerWords as AnyFormer};
-ghost use Rattle.oathd_words.specs.declared.store_words.Action.TheVariants.{Migrate};
 ghost use Rattle.oathd_words.specs.declared.store_words.ClientWords.TheVariants.{Anybody, Named, ThisMachine};
 ghost use Rattle.oathd_words.specs.declared.store_words.LogWords.TheVariants.{Nowhere, Output, Syslog};
 ghost use Rattle.oathd_words.specs.declared.store_words.Look.{Look as AnyLook};
 ghost use Rattle.oathd_words.specs.declared.store_words.Look.TheVariants.{Audit, Export, Gates, Unlock};
-ghost use Rattle.oathd_words.specs.declared.store_words.NamedAct.{NamedAct as AnyAct};
-ghost use Rattle.oathd_words.specs.declared.store_words.NamedAct.TheVariants as acts;
+ghost use Rattle.oathd_words.specs.declared.store_words.Owner.{Owner as AnyOwner};
 ghost use Rattle.oathd_words.specs.declared.store_words.Owner.TheVariants as owners;
 ghost use Rattle.oathd_words.specs.declared.words.Task.TheVariants.{Check, NewCluster, NewKey, Secret, SecretOfInput};
 
@@ -84,19 +82,26 @@ pub fn ranges_can_be_broken()
     ensures look_10 { (look : AnyLook) → IsActionInRange (look_at look 10) → ⊥ }
     ensures look_at_member_0 { (look : AnyLook) → IsActionInRange (look_at_member look 0) → ⊥ }
     ensures look_at_member_10 { (look : AnyLook) → IsActionInRange (look_at_member look 10) → ⊥ }
-    ensures migrate { IsActionInRange (Migrate 1) × IsActionInRange (Migrate 9) }
-    ensures migrate_0 { IsActionInRange (Migrate 0) → ⊥ }
-    ensures migrate_10 { IsActionInRange (Migrate 10) → ⊥ }
+    ensures node { IsNodeInRange (at_node 1) × IsNodeInRange (at_node 9) × IsNodeInRange (at_member 1)
+        × IsNodeInRange (at_member 9) }
+    ensures no_node { IsNodeInRange owners.Any → ⊥ }
+    ensures node_0 { (IsNodeInRange (at_node 0) → ⊥) × (IsNodeInRange (at_member 0) → ⊥) }
+    ensures node_10 { (IsNodeInRange (at_node 10) → ⊥) × (IsNodeInRange (at_member 10) → ⊥) }
+    ensures migrate { (owner : AnyOwner) → IsActionInRange (migrate_at owner) → IsNodeInRange owner }
+    ensures migrate_of_one { (owner : AnyOwner) → IsNodeInRange owner → IsActionInRange (migrate_among 3 owner) }
+    ensures begin { IsActionInRange (begin_at 1) × IsActionInRange (begin_at 9) }
+    ensures begin_0 { IsActionInRange (begin_at 0) → ⊥ }
+    ensures begin_10 { IsActionInRange (begin_at 10) → ⊥ }
+    ensures roster { IsActionInRange (roster_at 1) × IsActionInRange (drop_at 9) }
+    ensures roster_0 { IsActionInRange (roster_at 0) → ⊥ }
+    ensures roster_10 { IsActionInRange (roster_at 10) → ⊥ }
     ensures floors { IsActionInRange (floors_of 1) × IsActionInRange (floors_of 9) }
     ensures floors_0 { IsActionInRange (floors_of 0) → ⊥ }
     ensures floors_10 { IsActionInRange (floors_of 10) → ⊥ }
-    ensures level { (floors : Vec (Bor (List ℕ))) → IsActionInRange (level_by floors 1)
-        × IsActionInRange (level_by floors 9) }
-    ensures level_0 { (floors : Vec (Bor (List ℕ))) → IsActionInRange (level_by floors 0) → ⊥ }
-    ensures level_10 { (floors : Vec (Bor (List ℕ))) → IsActionInRange (level_by floors 10) → ⊥ }
-    ensures named { (act : AnyAct) → IsActionInRange (named_by act 1) × IsActionInRange (named_by act 9) }
-    ensures named_0 { (act : AnyAct) → IsActionInRange (named_by act 0) → ⊥ }
-    ensures named_10 { (act : AnyAct) → IsActionInRange (named_by act 10) → ⊥ }
+    ensures level { (floors : Vec (Bor (List ℕ))) (owner : AnyOwner)
+        → IsActionInRange (level_by floors owner) → IsNodeInRange owner }
+    ensures level_of_one { (floors : Vec (Bor (List ℕ))) (owner : AnyOwner) → IsNodeInRange owner
+        → IsActionInRange (level_by floors owner) }
 
     ensures lines { IsInRange (lines_at 0 (given_nodes 1)) × IsInRange (lines_at 1099511627775 named_nodes) }
     ensures lines_of_none { IsInRange (lines_at 0 (given_nodes 0)) → ⊥ }
@@ -117,16 +122,19 @@ pub fn ranges_can_be_broken()
 pub fn paths_are_worked()
     ensures named { map cluster_path_of (lines_at 0 named_nodes ∷ sim_at 0 named_nodes ∷ cluster_at 0 named_nodes
         ∷ store_of (init_at None 1) ∷ store_of (serve_for 0 1) ∷ store_of floors_by_file
-        ∷ store_of (look_at_member Audit 1) ∷ Check (word []) file ∷ []) ≡ replicate 8 (Some (codes "c")) }
+        ∷ store_of (look_at_member Audit 1) ∷ store_of (begin_at 1) ∷ store_of (roster_at 1)
+        ∷ store_of (migrate_at (at_member 1)) ∷ Check (word []) file ∷ []) ≡ replicate 11 (Some (codes "c")) }
     ensures remake { (former : AnyFormer) → path_of_action (remake_at None former 1) ≡ Some (codes "c") }
-    ensures by_names { (act : AnyAct) → path_of_action (named_by act 1) ≡ Some (codes "c") }
+    ensures level_by_names { (floors : Vec (Bor (List ℕ)))
+        → path_of_action (level_by floors (at_member 1)) ≡ Some (codes "c") }
     ensures none { map cluster_path_of (lines_at 0 (given_nodes 1) ∷ sim_at 0 (given_nodes 1)
         ∷ cluster_at 0 (given_nodes 1) ∷ store_of usual_init ∷ store_of (look_at_any Export)
-        ∷ store_of (look_at Audit 1) ∷ store_of (Migrate 1) ∷ store_of (floors_of 1) ∷ Secret file
+        ∷ store_of (look_at Audit 1) ∷ store_of (migrate_at (at_node 1)) ∷ store_of (floors_of 1) ∷ Secret file
         ∷ SecretOfInput ∷ []) ≡ replicate 10 None }
     ensures given_remake { (former : AnyFormer) → path_of_action (usual_remake former) ≡ None }
     ensures given_serve { (members : Vec SocketAddrV4) → path_of_action (usual_serve members) ≡ None }
-    ensures level { (floors : Vec (Bor (List ℕ))) → path_of_action (level_by floors 1) ≡ None }
+    ensures level { (floors : Vec (Bor (List ℕ))) → path_of_action (level_by floors (at_node 1)) ≡ None }
+    ensures nodes { map owner_node (owners.Any ∷ at_node 2 ∷ at_member 3 ∷ []) ≡ None ∷ Some 2 ∷ Some 3 ∷ [] }
 {}
 
 /// Worked cases. The options about former stores.
@@ -219,7 +227,7 @@ pub fn looks_are_worked()
         × (AsksForAction (codes "audit") found (look_at_member Audit 2) → ⊥)
         × (AsksForAction (codes "audit") found (look_at_member Gates 1) → ⊥) }
     ensures named_by_another { (found : Found) → first_value found (codes "cluster") ≡ Some (codes "c")
-        → GivesOwner found Export (owners.Member 1 (word (codes "d"))) → ⊥ }
+        → GivesOwner found false (owners.Member 1 (word (codes "d"))) → ⊥ }
     ensures named_is_not_plain { (found : Found) → first_value found (codes "cluster") ≡ Some (codes "c")
         → (AsksForAction (codes "export") found (look_at_any Export) → ⊥)
         × (AsksForAction (codes "audit") found (look_at Audit 1) → ⊥)
@@ -237,59 +245,78 @@ pub fn looks_are_worked()
         → AsksForAction (codes "audit") found (look_at_member look 1) → ⊥ }
 {}
 
-/// Worked cases. What the commands do to a store by names, and what they ask for without a cluster file.
+/// Worked cases. What the commands ask for that create, upgrade or level a store, or print its rows.
 pub fn named_words_are_worked()
     ensures begins { (found : Found) (value : MatchedArg) → found.entries.items ≡ (word (codes "begins"), value) ∷ []
-        → value.vals.items ≡ word (codes "true") ∷ []
-        → (begins found ≡ true) × AsksForAct (codes "init") found acts.Begin }
+        → value.vals.items ≡ word (codes "true") ∷ [] → begins found ≡ true }
     ensures served { (found : Found) → found.entries.items ≡ [] → begins found ≡ false }
+    ensures begin { (found : Found) → GivesMember found (codes "node") 1
+        → first_value found (codes "cluster") ≡ Some (codes "c") → begins found ≡ true
+        → is_of_former found ≡ false → first_value found (codes "moment") ≡ None
+        → AsksForAction (codes "init") found (begin_at 1) × (AsksForAction (codes "init") found (begin_at 2) → ⊥)
+        × (AsksForAction (codes "roster") found (begin_at 1) → ⊥) }
     ensures begins_without_the_flag { (found : Found) → begins found ≡ false
-        → AsksForAct (codes "init") found acts.Begin → ⊥ }
+        → AsksForAction (codes "init") found (begin_at 1) → ⊥ }
     ensures begins_at_a_moment { (found : Found) (moment : List ℕ) → first_value found (codes "moment") ≡ Some moment
-        → AsksForAct (codes "init") found acts.Begin → ⊥ }
+        → AsksForAction (codes "init") found (begin_at 1) → ⊥ }
     ensures begins_of_former { (found : Found) → is_of_former found ≡ true
-        → AsksForAct (codes "init") found acts.Begin → ⊥ }
+        → AsksForAction (codes "init") found (begin_at 1) → ⊥ }
+    ensures begins_without_a_file { (found : Found) → first_value found (codes "cluster") ≡ None
+        → AsksForAction (codes "init") found (begin_at 1) → ⊥ }
     ensures begins_is_no_init { (found : Found) → begins found ≡ true
         → AsksForAction (codes "init") found usual_init → ⊥ }
     ensures begins_is_no_remake { (found : Found) (former : AnyFormer) → begins found ≡ true
         → AsksForAction (codes "init") found (usual_remake former) → ⊥ }
 
-    ensures acts_of_others { (found : Found) → (AsksForAct (codes "export") found acts.Roster → ⊥)
-        × (AsksForAct (codes "roster") found acts.Begin → ⊥)
-        × (AsksForAct (codes "level") found (acts.Migrate None) → ⊥) }
     ensures drops { (found : Found) (value : MatchedArg)
         → found.entries.items ≡ (word (codes "drop-retired"), value) ∷ []
-        → value.vals.items ≡ word (codes "true") ∷ []
-        → AsksForAct (codes "roster") found acts.DropRetired × (AsksForAct (codes "roster") found acts.Roster → ⊥)
-        × (AsksForAct (codes "gates") found acts.DropRetired → ⊥) }
-    ensures drops_nothing { (found : Found) → found.entries.items ≡ []
-        → AsksForAct (codes "roster") found acts.Roster × (AsksForAct (codes "roster") found acts.DropRetired → ⊥) }
-    ensures migrate { (found : Found) → GivesMember found (codes "members-were") 3
-        → AsksForAct (codes "migrate") found (acts.Migrate (Some 3))
-        × (AsksForAct (codes "migrate") found (acts.Migrate (Some 2)) → ⊥) }
-    ensures migrate_of_any { (found : Found) → first_value found (codes "members-were") ≡ None
-        → AsksForAct (codes "migrate") found (acts.Migrate None) }
-    ensures migrate_of_some { (found : Found) → first_value found (codes "members-were") ≡ Some (codes "3")
-        → (AsksForAct (codes "migrate") found (acts.Migrate None) → ⊥)
-        × (AsksForAction (codes "migrate") found (Migrate 1) → ⊥) }
-    ensures level { (found : Found) (floors : Vec (Bor (List ℕ))) → values_given found (codes "floors")
-        ≡ Some (map (λ path. path.now) floors.items) → AsksForAct (codes "level") found (acts.Level floors)
-        × (AsksForAct (codes "gates") found (acts.Level floors) → ⊥) }
-    ensures level_by_others { (found : Found) (floors : Vec (Bor (List ℕ))) → values_given found (codes "floors") ≡ None
-        → AsksForAct (codes "level") found (acts.Level floors) → ⊥ }
+        → value.vals.items ≡ word (codes "true") ∷ [] → drops found ≡ true }
+    ensures drops_nothing { (found : Found) → found.entries.items ≡ [] → drops found ≡ false }
+    ensures roster { (found : Found) → GivesMember found (codes "node") 1
+        → first_value found (codes "cluster") ≡ Some (codes "c") → drops found ≡ false
+        → AsksForAction (codes "roster") found (roster_at 1) × (AsksForAction (codes "roster") found (drop_at 1) → ⊥)
+        × (AsksForAction (codes "roster") found (roster_at 2) → ⊥)
+        × (AsksForAction (codes "gates") found (roster_at 1) → ⊥) }
+    ensures drop { (found : Found) → GivesMember found (codes "node") 1
+        → first_value found (codes "cluster") ≡ Some (codes "c") → drops found ≡ true
+        → AsksForAction (codes "roster") found (drop_at 1) × (AsksForAction (codes "roster") found (roster_at 1) → ⊥) }
+    ensures roster_without_a_file { (found : Found) → first_value found (codes "cluster") ≡ None
+        → AsksForAction (codes "roster") found (roster_at 1) → ⊥ }
 
-    // a cluster file gives the names, and without one there are none
-    ensures named { (found : Found) → GivesMember found (codes "node") 1
-        → first_value found (codes "cluster") ≡ Some (codes "c") → begins found ≡ true
-        → is_of_former found ≡ false → first_value found (codes "moment") ≡ None
-        → AsksForAction (codes "init") found (named_by acts.Begin 1)
-        × (AsksForAction (codes "init") found (named_by acts.Begin 2) → ⊥)
-        × (AsksForAction (codes "init") found (named_by acts.Roster 1) → ⊥) }
-    ensures named_is_not_plain { (found : Found) → first_value found (codes "cluster") ≡ Some (codes "c")
-        → AsksForAction (codes "migrate") found (Migrate 1) → ⊥ }
-    ensures named_level_is_not_plain { (found : Found) (floors : Vec (Bor (List ℕ)))
+    // the number of members stands beside a cluster file alone
+    ensures members_were { (found : Found) → GivesMember found (codes "members-were") 3
+        → GivesFormerMembers found (at_member 1) (Some 3) × (GivesFormerMembers found (at_member 1) (Some 2) → ⊥)
+        × (GivesFormerMembers found (at_node 1) (Some 3) → ⊥) × (GivesFormerMembers found owners.Any (Some 3) → ⊥) }
+    ensures members_were_not { (found : Found) → first_value found (codes "members-were") ≡ None
+        → GivesFormerMembers found (at_member 1) None × GivesFormerMembers found (at_node 1) None
+        × GivesFormerMembers found owners.Any None }
+    ensures members_were_some { (found : Found) → first_value found (codes "members-were") ≡ Some (codes "3")
+        → (GivesFormerMembers found (at_member 1) None → ⊥) × (GivesFormerMembers found (at_node 1) None → ⊥)
+        × (GivesFormerMembers found owners.Any None → ⊥) }
+    ensures migrate { (found : Found) → GivesMember found (codes "node") 1
+        → first_value found (codes "cluster") ≡ None → first_value found (codes "members-were") ≡ None
+        → AsksForAction (codes "migrate") found (migrate_at (at_node 1))
+        × (AsksForAction (codes "migrate") found (migrate_at (at_node 2)) → ⊥)
+        × (AsksForAction (codes "level") found (migrate_at (at_node 1)) → ⊥) }
+    ensures migrate_by_names { (found : Found) → GivesMember found (codes "node") 1
+        → first_value found (codes "cluster") ≡ Some (codes "c") → GivesMember found (codes "members-were") 3
+        → AsksForAction (codes "migrate") found (migrate_among 3 (at_member 1))
+        × (AsksForAction (codes "migrate") found (migrate_at (at_node 1)) → ⊥) }
+    ensures migrate_of_any { (found : Found) → AsksForAction (codes "migrate") found (migrate_at owners.Any) → ⊥ }
+
+    ensures level { (found : Found) (floors : Vec (Bor (List ℕ))) → values_given found (codes "floors")
+        ≡ Some (map (λ path. path.now) floors.items) → GivesMember found (codes "node") 1
+        → first_value found (codes "cluster") ≡ None
+        → AsksForAction (codes "level") found (level_by floors (at_node 1))
+        × (AsksForAction (codes "level") found (level_by floors (at_node 2)) → ⊥)
+        × (AsksForAction (codes "gates") found (level_by floors (at_node 1)) → ⊥) }
+    ensures level_by_names { (found : Found) (floors : Vec (Bor (List ℕ))) → values_given found (codes "floors")
+        ≡ Some (map (λ path. path.now) floors.items) → GivesMember found (codes "node") 1
         → first_value found (codes "cluster") ≡ Some (codes "c")
-        → AsksForAction (codes "level") found (level_by floors 1) → ⊥ }
-    ensures plain_is_not_named { (found : Found) (act : AnyAct) → first_value found (codes "cluster") ≡ None
-        → AsksForAction (codes "roster") found (named_by act 1) → ⊥ }
+        → AsksForAction (codes "level") found (level_by floors (at_member 1))
+        × (AsksForAction (codes "level") found (level_by floors (at_node 1)) → ⊥) }
+    ensures level_by_others { (found : Found) (floors : Vec (Bor (List ℕ))) → values_given found (codes "floors") ≡ None
+        → AsksForAction (codes "level") found (level_by floors (at_node 1)) → ⊥ }
+    ensures level_of_any { (found : Found) (floors : Vec (Bor (List ℕ)))
+        → AsksForAction (codes "level") found (level_by floors owners.Any) → ⊥ }
 {}

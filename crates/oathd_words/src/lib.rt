@@ -20,7 +20,5 @@ pub use laws::{
 };
 pub use members::read_members;
 pub use nodes_words::NodesWords;
-pub use store_words::{
-    Action, ClientWords, ClusterWords, ImportWords, LogWords, Look, NamedAct, Owner,
-};
+pub use store_words::{Action, ClientWords, ClusterWords, ImportWords, LogWords, Look, Owner};
 pub use words::{Task, read_words};

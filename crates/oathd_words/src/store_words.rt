@@ -11,8 +11,8 @@ ghost use Rattle.otp_core.specs.Limits.{Limits};
 ghost use Rattle.vote_core.specs.NodeSet.{PlaceRecord};
 ghost use Rattle.oathd_words.specs.FormerWords.{former_given, former_value, is_of_former as spec_is_of_former};
 ghost use Rattle.oathd_words.specs.Given.{is_flag};
-ghost use Rattle.oathd_words.specs.StoreWords.{AsksForAction, AsksForClients, AsksForCluster, AsksForImport, AsksForLog, GivesFormerCount, GivesImport, GivesMoment, GivesOwner, GivesPlace, begins, few_turns, has_log, is_of_node, takes_anybody, turns_given};
-ghost use Rattle.oathd_words.specs.Words.{owner_path, path_of_action};
+ghost use Rattle.oathd_words.specs.StoreWords.{AsksForAction, AsksForClients, AsksForCluster, AsksForImport, AsksForLog, GivesFormerCount, GivesFormerMembers, GivesImport, GivesMoment, GivesOwner, GivesPlace, begins, few_turns, has_log, takes_anybody, turns_given};
+ghost use Rattle.oathd_words.specs.Words.{owner_node, owner_path, path_of_action};
 ghost use Rattle.oathd_words.specs.declared.store_words.Action.{Action as AnyAction};
 ghost use Rattle.oathd_words.specs.declared.store_words.ClusterWords.{ClusterWords as AnyCluster};
 ghost use Rattle.oathd_words.specs.declared.store_words.ImportWords.{ImportWords as AnyImport};
@@ -96,7 +96,7 @@ pub enum ImportWords<'a> {
     Named(&'a str),
 }
 
-/// The node whose store a command looks at.
+/// The node whose store a command works on.
 #[derive(Clone, Copy, Drop)]
 pub enum Owner<'a> {
     /// The node that the tables of the store name.
@@ -124,7 +124,9 @@ impl<'a> Owner<'a> {
     }
 
     /// Returns the number of the node, or None if the words have none.
-    pub fn node(&self) -> Option<u8> {
+    pub fn node(&self) -> Option<u8>
+        ensures { result ≡ owner_node self.now }
+    {
         match self {
             Owner::Any => None,
             Owner::Node(node) | Owner::Member { node, .. } => Some(*node),
@@ -148,39 +150,6 @@ pub enum Look<'a> {
     },
 }
 
-impl Look<'_> {
-    /// Returns whether the words have to say whose store it is, without a cluster file too.
-    fn is_of_node(self) -> bool
-        ensures { result ≡ is_of_node self.entry }
-    {
-        match self {
-            Look::Export => false,
-            Look::Audit | Look::Gates | Look::Unlock { .. } => true,
-        }
-    }
-}
-
-/// What is done to the store of a member whose cluster file gives names.
-#[derive(Drop)]
-pub enum NamedAct<'a> {
-    /// Creates it, for a cluster that never served.
-    Begin,
-    /// Prints its rows.
-    Roster,
-    /// Drops the rows of retired tokens whose floors other rows keep.
-    DropRetired,
-    /// Upgrades it from a store without names.
-    Migrate {
-        /// The number of members that the cluster had until now, 1 to 9, or `None` if it is not given.
-        members_were: Option<u8>,
-    },
-    /// Raises its floors to the greatest in floors files.
-    Level {
-        /// The paths of the floors files.
-        floors: Vec<&'a str>,
-    },
-}
-
 /// An action on the store of a node.
 #[derive(Drop)]
 pub enum Action<'a> {
@@ -192,6 +161,13 @@ pub enum Action<'a> {
         /// The moment of the users' import, in seconds since 1970-01-01 00:00:00 UTC: 0 to 1099511627775. `None` for
         /// the current time.
         moment: Option<u64>,
+    },
+    /// Creates it by names, for a cluster that never served.
+    Begin {
+        /// The number of the node: 1 to 9.
+        node: u8,
+        /// The path of the cluster file.
+        path: &'a str,
     },
     /// Creates it in place of a lost one, from floors files.
     Remake {
@@ -219,10 +195,21 @@ pub enum Action<'a> {
         owner: Owner<'a>,
         look: Look<'a>,
     },
-    /// Upgrades it to the current format.
-    Migrate {
+    /// Prints its rows by names, or drops rows of retired tokens.
+    Roster {
         /// The number of the node: 1 to 9.
         node: u8,
+        /// The path of the cluster file.
+        path: &'a str,
+        /// Whether the rows of retired tokens are dropped whose floors other rows keep.
+        drops: bool,
+    },
+    /// Upgrades it to the current format, and gives its tokens names if its owner has a cluster file.
+    Migrate {
+        /// Any but `Any`.
+        owner: Owner<'a>,
+        /// The number of members that the cluster had until now, 1 to 9, or `None` if it is not given.
+        members_were: Option<u8>,
     },
     /// Prints its floors file.
     Floors {
@@ -230,20 +217,12 @@ pub enum Action<'a> {
         node: u8,
         count: CountWords<'a>,
     },
-    /// Raises its floors to the greatest in floors files.
+    /// Raises its floors to the greatest in floors files, by names if its owner has a cluster file.
     Level {
-        /// The number of the node: 1 to 9.
-        node: u8,
+        /// Any but `Any`.
+        owner: Owner<'a>,
         /// The paths of the floors files.
         floors: Vec<&'a str>,
-    },
-    /// An action on the store of a member whose cluster file gives names.
-    Named {
-        /// The number of the node: 1 to 9.
-        node: u8,
-        /// The path of the cluster file.
-        path: &'a str,
-        act: NamedAct<'a>,
     },
 }
 
@@ -269,8 +248,10 @@ impl<'a> Action<'a> {
                 cluster: ClusterWords::Named { path, .. },
                 ..
             } => Some(*path),
-            Action::Look { owner, .. } => owner.path(),
-            Action::Named { path, .. } => Some(*path),
+            Action::Begin { path, .. } | Action::Roster { path, .. } => Some(*path),
+            Action::Look { owner, .. }
+            | Action::Migrate { owner, .. }
+            | Action::Level { owner, .. } => owner.path(),
             _ => None,
         }
     }
@@ -373,8 +354,7 @@ fn begin<'a>(matches: &ArgMatches<'a>) -> Option<Action<'a>>
     }
     let node = member_number(matches, "node")?;
     let path = matches.get_str("cluster")?;
-    let act = NamedAct::Begin;
-    Some(Action::Named { node, path, act })
+    Some(Action::Begin { node, path })
 }
 
 /// Returns the action of `init` without options about former stores, or `None` if a value is missing or wrong.
@@ -554,22 +534,29 @@ fn serve_action<'a>(
     }))
 }
 
-/// Returns whose store a command looks at, or `None` if the number of the node is missing or wrong.
-///
-/// Without a cluster file, `export` looks at the store of any node.
-fn owner_of<'a>(matches: &ArgMatches<'a>, look: Look<'_>) -> Option<Owner<'a>>
-    ensures some { IfSome result (GivesOwner (found_of matches.now) look.entry) }
-    ensures none { IfNone result ((owner : AnyOwner) → GivesOwner (found_of matches.now) look.entry owner → ⊥) }
+/// Returns whose store a command works on, or `None` if the number of the node is missing or wrong.
+fn owner_of<'a>(matches: &ArgMatches<'a>) -> Option<Owner<'a>>
+    ensures some { IfSome result (GivesOwner (found_of matches.now) true) }
+    ensures none { IfNone result ((owner : AnyOwner) → GivesOwner (found_of matches.now) true owner → ⊥) }
 {
-    if let Some(path) = matches.get_str("cluster") {
-        let node = member_number(matches, "node")?;
-        return Some(Owner::Member { node, path });
+    let node = member_number(matches, "node")?;
+    match matches.get_str("cluster") {
+        Some(path) => Some(Owner::Member { node, path }),
+        None => Some(Owner::Node(node)),
     }
-    if look.is_of_node() {
-        Some(Owner::Node(member_number(matches, "node")?))
-    } else {
-        Some(Owner::Any)
-    }
+}
+
+/// Returns whose store a command works on that needs no node without a cluster file, or `None` if the number of a
+/// member is missing or wrong.
+fn owner_or_any<'a>(matches: &ArgMatches<'a>) -> Option<Owner<'a>>
+    ensures some { IfSome result (GivesOwner (found_of matches.now) false) }
+    ensures none { IfNone result ((owner : AnyOwner) → GivesOwner (found_of matches.now) false owner → ⊥) }
+{
+    let Some(path) = matches.get_str("cluster") else {
+        return Some(Owner::Any);
+    };
+    let node = member_number(matches, "node")?;
+    Some(Owner::Member { node, path })
 }
 
 /// Returns the action of `export`, or `None` if a value is missing or wrong.
@@ -578,7 +565,7 @@ fn export_action<'a>(matches: &ArgMatches<'a>) -> Option<Action<'a>>
     ensures none { IfNone result ((action : AnyAction)
         → AsksForAction (codes "export") (found_of matches.now) action → ⊥) }
 {
-    let owner = owner_of(matches, Look::Export)?;
+    let owner = owner_or_any(matches)?;
     let look = Look::Export;
     Some(Action::Look { owner, look })
 }
@@ -589,7 +576,7 @@ fn audit_action<'a>(matches: &ArgMatches<'a>) -> Option<Action<'a>>
     ensures none { IfNone result ((action : AnyAction)
         → AsksForAction (codes "audit") (found_of matches.now) action → ⊥) }
 {
-    let owner = owner_of(matches, Look::Audit)?;
+    let owner = owner_of(matches)?;
     let look = Look::Audit;
     Some(Action::Look { owner, look })
 }
@@ -605,18 +592,19 @@ fn former_count(matches: &ArgMatches<'_>) -> Option<Option<u8>>
     Some(Some(member_number(matches, "members-were")?))
 }
 
-/// Returns the action of `migrate` without a cluster file, or `None` if a value is missing or wrong.
-fn plain_migrate<'a>(matches: &ArgMatches<'a>) -> Option<Action<'a>>
-    requires { first_value (found_of matches.now) (codes "cluster") ≡ None }
-    ensures some { IfSome result (AsksForAction (codes "migrate") (found_of matches.now)) }
-    ensures none { IfNone result ((action : AnyAction)
-        → AsksForAction (codes "migrate") (found_of matches.now) action → ⊥) }
+/// Returns the number of members that a store's cluster had, as `migrate` takes it, or `None` if it is wrong.
+///
+/// Only a member's cluster file comes with it.
+fn former_members(matches: &ArgMatches<'_>, owner: Owner<'_>) -> Option<Option<u8>>
+    ensures some { IfSome result (GivesFormerMembers (found_of matches.now) owner.entry) }
+    ensures none { IfNone result ((members : Option ℕ)
+        → GivesFormerMembers (found_of matches.now) owner.entry members → ⊥) }
 {
-    if matches.get_str("members-were").is_some() {
-        return None;
+    match owner {
+        Owner::Member { .. } => former_count(matches),
+        Owner::Any | Owner::Node(_) if matches.get_str("members-were").is_some() => None,
+        Owner::Any | Owner::Node(_) => Some(None),
     }
-    let node = member_number(matches, "node")?;
-    Some(Action::Migrate { node })
 }
 
 /// Returns the action of `migrate`, or `None` if a value is missing or wrong.
@@ -625,13 +613,12 @@ fn migrate_action<'a>(matches: &ArgMatches<'a>) -> Option<Action<'a>>
     ensures none { IfNone result ((action : AnyAction)
         → AsksForAction (codes "migrate") (found_of matches.now) action → ⊥) }
 {
-    let Some(path) = matches.get_str("cluster") else {
-        return plain_migrate(matches);
-    };
-    let node = member_number(matches, "node")?;
-    let members_were = former_count(matches)?;
-    let act = NamedAct::Migrate { members_were };
-    Some(Action::Named { node, path, act })
+    let owner = owner_of(matches)?;
+    let members_were = former_members(matches, owner)?;
+    Some(Action::Migrate {
+        owner,
+        members_were,
+    })
 }
 
 /// Returns the action of `floors`, or `None` if a value is missing or wrong.
@@ -656,18 +643,12 @@ fn level_action<'a>(
     ensures none { IfOk result (λ read. IfNone read ((action : AnyAction)
         → AsksForAction (codes "level") (found_of matches.now) action → ⊥)) }
 {
-    let Some(node) = member_number(matches, "node") else {
+    let Some(owner) = owner_of(matches) else {
         return Ok(None);
     };
-    let Some(floors) = paths_of(alloc, matches, "floors")? else {
-        return Ok(None);
-    };
-    match matches.get_str("cluster") {
-        Some(path) => {
-            let act = NamedAct::Level { floors };
-            Ok(Some(Action::Named { node, path, act }))
-        }
-        None => Ok(Some(Action::Level { node, floors })),
+    match paths_of(alloc, matches, "floors")? {
+        Some(floors) => Ok(Some(Action::Level { owner, floors })),
+        None => Ok(None),
     }
 }
 
@@ -677,7 +658,7 @@ fn gates_action<'a>(matches: &ArgMatches<'a>) -> Option<Action<'a>>
     ensures none { IfNone result ((action : AnyAction)
         → AsksForAction (codes "gates") (found_of matches.now) action → ⊥) }
 {
-    let owner = owner_of(matches, Look::Gates)?;
+    let owner = owner_of(matches)?;
     let look = Look::Gates;
     Some(Action::Look { owner, look })
 }
@@ -689,8 +670,8 @@ fn unlock_action<'a>(matches: &ArgMatches<'a>) -> Option<Action<'a>>
         → AsksForAction (codes "unlock") (found_of matches.now) action → ⊥) }
 {
     let user = matches.get_str("USER")?;
+    let owner = owner_of(matches)?;
     let look = Look::Unlock { user };
-    let owner = owner_of(matches, look)?;
     Some(Action::Look { owner, look })
 }
 
@@ -702,12 +683,8 @@ fn roster_action<'a>(matches: &ArgMatches<'a>) -> Option<Action<'a>>
 {
     let node = member_number(matches, "node")?;
     let path = matches.get_str("cluster")?;
-    let act = if is_given(matches, "drop-retired") {
-        NamedAct::DropRetired
-    } else {
-        NamedAct::Roster
-    };
-    Some(Action::Named { node, path, act })
+    let drops = is_given(matches, "drop-retired");
+    Some(Action::Roster { node, path, drops })
 }
 
 /// Returns the action of the command `name`, or `None` if it is no command over a database or a value is wrong.

@@ -369,6 +369,20 @@ fn read<'a>(
     found(alloc, commands, &mut program, &matches)
 }
 
+/// Returns the task that `words` ask for, if they ask running nodes.
+fn read_asking<'a>(alloc: Global, words: &'a [String]) -> Result<Task<'a>, Error>
+    ensures { IfOk result IsInRange }
+{
+    read(alloc, &ASKING_COMMANDS, words)
+}
+
+/// Returns the task that `words` ask for, if they ask no running node.
+fn read_other<'a>(alloc: Global, words: &'a [String]) -> Result<Task<'a>, Error>
+    ensures { IfOk result IsInRange }
+{
+    read(alloc, &COMMANDS, words)
+}
+
 /// Returns the task that `words` ask for. The first word is the program's name.
 ///
 /// # Errors
@@ -378,8 +392,8 @@ pub fn read_words<'a>(alloc: Global, words: &'a [String]) -> Result<Task<'a>, Er
     ensures { IfOk result IsInRange }
 {
     if asks_running(words) {
-        read(alloc, &ASKING_COMMANDS, words)
+        read_asking(alloc, words)
     } else {
-        read(alloc, &COMMANDS, words)
+        read_other(alloc, words)
     }
 }

@@ -19,5 +19,8 @@ returns-in-Floors g c = done_so _ _ c.args.action _ c.args.site.now.cluster.now 
 pub returns-in-Level : goal.returns-in-Level
 returns-in-Level g c = done_so _ _ c.args.action _ c.args.site.now.cluster.now _ _ c.level.result c.in-Level.is c.level.ensures
 
-pub returns-in-Named : goal.returns-in-Named
-returns-in-Named g c = done_so _ _ c.args.action _ c.args.site.now.cluster.now _ _ c.act.result c.in-Named.is c.act.ensures
+pub returns-in-Begin : goal.returns-in-Begin
+returns-in-Begin g c = done_so _ _ c.args.action _ c.args.site.now.cluster.now _ _ c.begin.result c.in-Begin.is c.begin.ensures
+
+pub returns-in-Roster : goal.returns-in-Roster
+returns-in-Roster g c = done_so _ _ c.args.action _ c.args.site.now.cluster.now _ _ c.roster.result c.in-Roster.is c.roster.ensures

@@ -1,7 +1,8 @@
 use Rattle.clap.specs.Matches.{found_of}
+use Rattle.oathd_words.specs.declared.store_words.Look.TheVariants.{Unlock}
 use Rattle.oathd_words.proofs.WordsLemmas.{no_owner, where_none}
 use Rattle.oathd_words.proofs.store_words.unlock_action.Goals as goal
 
 pub returns-in_err-owner-clause-none : goal.returns-in_err-owner-clause-none
 returns-in_err-owner-clause-none c =
-    where_none c.from_residual-in_err-owner.result _ (no_owner (found_of c.args.matches.now) c.in_ok-user.user c.in_err-owner.ensures.none)
+    where_none c.from_residual-in_err-owner.result _ (no_owner (found_of c.args.matches.now) (Unlock c.in_ok-user.user) c.in_err-owner.ensures.none)
