@@ -25,6 +25,7 @@ from browsing import Window, await_answer, await_that, expect, settle
 from trial_site import NODES, OATHTOOL, PLAIN_ADDRESS, TOP, Site, Token, read_rows, wakdulg
 from otp import code
 from wakdulg_helpdesk.book import user_of
+from wakdulg_helpdesk.naming import ByNames
 from selenium.webdriver.common.by import By
 from selenium.webdriver.common.keys import Keys
 
@@ -133,7 +134,7 @@ class Test:
 
     def kind_of(self, name):
         rows = read_rows(self.site.read("desk/users").encode())
-        return user_of(next(row for row in rows if row.user == name.encode()), b"").kind()
+        return user_of(next(row for row in rows if row.user == name.encode()), ByNames(b"")).kind()
 
     def choose(self, present, wanted):
         """Moves from the present choice down to another one."""

@@ -1,4 +1,5 @@
-"""A site on this machine: three nodes by names with --reload, nginx with TLS, and the helpdesk, on free ports."""
+"""A site on this machine: three nodes, nginx with TLS, and the helpdesk, on free ports. The nodes are by names, with
+--reload, or without names."""
 import base64
 import contextlib
 import hashlib
@@ -20,6 +21,7 @@ import wakdulg
 from net import free_ports
 from otp import code
 from wakdulg.operator import Silent, read_operator
+from wakdulg_helpdesk.cluster_file import ClusterFile
 from wakdulg_helpdesk.members import Member
 from wakdulg_helpdesk.passwords import HASHER
 from wakdulg_onboard.tokens import read_rows
@@ -74,8 +76,8 @@ class Site:
     """All processes and files of the site, in a folder. The folder desk is that of the helpdesk."""
     host = "helpdesk.example"
 
-    def __init__(self, folder, tokens, staff):
-        self.folder, self.processes, self.secrets = Path(folder), {}, set()
+    def __init__(self, folder, tokens, staff, by_names=True):
+        self.folder, self.processes, self.secrets, self.by_names = Path(folder), {}, set(), by_names
         *self.ports, self.port = free_ports(3) + free_ports(1, socket.SOCK_STREAM)
         self.url = "https://%s:%d" % (self.host, self.port)
         self.folder.chmod(0o711)
@@ -83,16 +85,14 @@ class Site:
         for name in "desk", "made", "members/1", "members/2", "members/3":
             (self.folder / name).mkdir(parents=True)
         self.write_files(tokens, staff)
-        made = [subprocess.Popen([OATHD, "init", *self.words(node), "--begins"], cwd=self.folder,
-                                 stdout=subprocess.DEVNULL) for node in NODES]
-        if any(each.wait() for each in made):
-            raise RuntimeError("oathd init failed")
+        self.make_databases(*NODES)
 
     # ---- Files
 
     def write_files(self, tokens, staff):
         members = ["member %d 127.0.0.1:%d" % pair for pair in zip(NODES, self.ports)]
-        lines = ["names trial-of-a-helpdesk", "life 1", "key-file key", "new-tokens fresh", *members]
+        lines = ["life 1", "key-file key", *members]
+        lines += ["names trial-of-a-helpdesk", "new-tokens fresh"] if self.by_names else []
         cluster = "\n".join(lines) + "\n"
         key, front, operator, reader = (secrets.token_hex(32) for _ in range(4))
         self.secrets = {key, front, operator, reader}
@@ -140,6 +140,13 @@ class Site:
     def read(self, name):
         return (self.folder / name).read_text()
 
+    def make_databases(self, *nodes):
+        more = ["--begins"] if self.by_names else []
+        made = [subprocess.Popen([OATHD, "init", *self.words(node), *more], cwd=self.folder, stdout=subprocess.DEVNULL)
+                for node in nodes]
+        if any(each.wait() for each in made):
+            raise RuntimeError("oathd init failed")
+
     # ---- Processes
 
     def oathd(self, *words):
@@ -161,7 +168,9 @@ class Site:
 
     def member(self, node, pause=3):
         """Returns what asks a running node, as the helpdesk does."""
-        return Member(node, ("127.0.0.1", self.ports[node - 1]), read_operator(str(self.folder / "operator")), pause)
+        naming = ClusterFile(str(self.folder / "desk/cluster")).naming
+        key = read_operator(str(self.folder / "operator"))
+        return Member(node, ("127.0.0.1", self.ports[node - 1]), key, pause, naming)
 
     def book_of(self, node):
         """Returns the print of the users file that a running member has, or None if it is silent."""
@@ -177,7 +186,8 @@ class Site:
     def start_nodes(self, *nodes):
         for node in nodes:
             log = open(self.folder / ("log.%d" % node), "ab")
-            words = [OATHD, "serve", *self.words(node), "--clients", "clients", "--forever", "--log", "--reload"]
+            words = [OATHD, "serve", *self.words(node), "--clients", "clients", "--forever", "--log"]
+            words += ["--reload"] if self.by_names else []
             process = subprocess.Popen(words, cwd=self.folder, stdout=subprocess.PIPE)
             subprocess.Popen([sys.executable, "-ISc", STAMP], stdin=process.stdout, stdout=log)
             process.stdout.close()
@@ -220,7 +230,7 @@ class Site:
 
     def start_desk(self, *more_words):
         words = [*self.desk_words(), *more_words, "--key-file", "7:%s" % (self.desk / "front.key"), "--issuer",
-                 "Example Site", "--push", self.push(), "--patience", "60"]
+                 "Example Site", "--patience", "60", *(["--push", self.push()] if self.by_names else [])]
         for name in "cluster", "users", "staff", "record":
             words += ["--" + name, self.desk / name]
         out, faults = (open(self.folder / name, "ab") for name in ("logins", "faults"))

@@ -15,7 +15,8 @@ from wakdulg_helpdesk.acts import Desk
 from wakdulg_helpdesk.book import Book, User
 from wakdulg_helpdesk.cluster_file import ClusterFile
 from wakdulg_helpdesk.keeping import Keeper
-from wakdulg_helpdesk.members import Gate, Row, State
+from wakdulg_helpdesk.members import Gate, State
+from wakdulg_helpdesk.naming import Row
 from wakdulg_helpdesk.record import Record
 from wakdulg_helpdesk.sessions import Sessions
 from wakdulg_helpdesk.staff import staff_of

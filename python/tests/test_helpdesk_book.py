@@ -22,7 +22,8 @@ from tests.cases import InFolder
 from wakdulg_helpdesk.acts import Desk
 from wakdulg_helpdesk.book import Book, User, duplicates, user_of, with_row, with_rows
 from wakdulg_helpdesk.cluster_file import ClusterFile
-from wakdulg_helpdesk.members import State, row_of, settled
+from wakdulg_helpdesk.members import State, settled
+from wakdulg_helpdesk.naming import ByNames, ByPlaces
 from wakdulg_onboard.tokens import Fault, Row, Token, read_rows
 from wakdulg_onboard.users_file import UsersFile
 
@@ -30,6 +31,7 @@ TOP = Path(__file__).resolve().parents[2]
 OATHD = os.environ.get("OATHD", str(TOP / "oathd"))
 NEEDS_QRENCODE = unittest.skipUnless(shutil.which("qrencode"), "needs qrencode")
 CLUSTER = "names trial-of-a-book\nlife 1\nkey-file key\nmember 1 127.0.0.1:9\n"
+PLACED = CLUSTER.partition("\n")[2]
 TYPES = ["HOTP", "HOTP/E", "HOTP/E/8", "HOTP/T30", "HOTP/T60", "HOTP/T60/7", "HOTP/T30/6/SHA256", "HOTP/T60/8/SHA512"]
 # A process that changes the file, and is killed by its own hook.
 KILLED = """
@@ -101,9 +103,10 @@ class Users(Case):
         """The name of each user's token is the one that a node has."""
         oathd("init", "--begins")
         book = self.book()
-        self.assertEqual({row.user: row.token for row in map(row_of, oathd("roster").splitlines())},
+        found = [book.naming.row_of(number, line) for number, line in enumerate(oathd("roster").splitlines())]
+        self.assertEqual({row.user: row.token for row in found},
                          {name: user.token for name, user in book.users.items()})
-        same, kind, secret = (user_of(row, book.names).token == book.users[b"user1"].token for row in read_rows(
+        same, kind, secret = (user_of(row, book.naming).token == book.users[b"user1"].token for row in read_rows(
             b"HOTP/E/6 user1 word %b01 7\nHOTP/T30 user1 - %b01\nHOTP user1 - %b02\n" % ((b"ab" * 20,) * 3)))
         self.assertEqual((same, kind, secret), (True, False, False), "a password, another kind, another secret")
 
@@ -113,7 +116,7 @@ class Users(Case):
                              ([yes, no, no], ": pending."), ([yes, no], ": pending."),
                              ([yes] * 3 + [no] * 2, ": in force, and pending at the others.")):
             done = "%d of %d members have the row" % (states.count(yes), len(states))
-            self.assertEqual(settled(states, "have the row"), done + told)
+            self.assertEqual(settled(states, "have the row", ByNames(b"trial")), done + told)
 
     @NEEDS_QRENCODE
     def test_kinds(self) -> None:
@@ -162,6 +165,63 @@ class Users(Case):
         self.assertEqual((len(good), faults), (20_000, ["the file: TooMany: it has 20000 rows, and a users file has"
                                                         " 10000 at most"]))
         self.assertLess(time.monotonic() - begin, 60)
+
+
+class Places(Case):
+    """The users file of a cluster without names."""
+
+    def setUp(self) -> None:
+        super().setUp()
+        Path("cluster").write_text(PLACED)
+        self.file = ClusterFile("cluster")
+        self.addCleanup(self.file.folder.cleanup)
+
+    def test_places_of_tokens(self) -> None:
+        """The place of each user's row is the one that a node has. Lines without a token have none."""
+        lines = Path("users").read_text().splitlines()
+        Path("users").write_text("\n".join([*lines[:3], "", "hotp zoe - 31", "# HOTP lou - 31", *lines[3:]]) + "\n")
+        words = ["db", "users", "--node", "1"]
+        for more in ["init", *words, "--cluster", "cluster"], ["floors", *words, "--cluster", "cluster"]:
+            told = subprocess.run([OATHD, *more], capture_output=True, check=True).stdout
+        book, found = self.book(), [ByPlaces().row_of(*pair) for pair in enumerate(told.splitlines()[1:])]
+        self.assertEqual({row.user: row.token for row in found},
+                         {name: user.token for name, user in book.users.items()})
+        self.assertEqual([row.token for row in found], [b"%d" % place for place in range(len(TYPES))])
+
+    def test_nothing_is_changed(self) -> None:
+        """No change is tried or made, and no file is copied, whatever a former site left beside it."""
+        before, book = Path("users").read_bytes(), self.book()
+        Path("users.pending").touch()
+        user = user_in(book, b"user1")
+        for edit in with_row(user.name, user.mark, b""), with_rows([token("new", bytes(range(20)))]):
+            for call in book.try_change, book.change:
+                with self.assertRaisesRegex(Fault, "^the cluster: NoNames: .*docs/how-to/let-users-come-and-go.md"):
+                    call(edit)
+        threads = threading.active_count()
+        book.keep_copying()
+        book.copy_pending()
+        self.assertEqual((threading.active_count(), book.pending()), (threads, None))
+        self.assertEqual((Path("users").read_bytes(), Path("copy").read_bytes()), (before, b""))
+        self.assertEqual(sorted(os.listdir()), ["cluster", "copy", "hook", "key", "users", "users.pending"])
+
+    def test_two_rows_of_a_user(self) -> None:
+        """A file that no node takes isn't taken: the users of before stay."""
+        book, good = self.book(), Path("users").read_bytes()
+        Path("users").write_bytes(good + b"HOTP user2 - %040x\n" % 1)
+        self.assertEqual(user_in(book, b"user2").token, b"1")
+        fault = "line 10 of the users file: TwoRows: line 3 is a row of user2 too: tell whoever runs this site"
+        self.assertEqual(book.fault, fault)
+        self.assertEqual(self.book().users, {}, "a site that begins")
+        Path("users").write_bytes(good)
+        self.assertEqual((len(self.book().users), self.book().fault), (len(TYPES), ""))
+
+    def test_a_file_without_secrets(self) -> None:
+        """A site needs no secret: pages say the same of a copy that lacks them."""
+        book = self.book()
+        whole = [user._replace(mark=b"") for user in book.users.values()]
+        lines = (line.split() for line in Path("users").read_text().splitlines() if not line.startswith("#"))
+        Path("users").write_text("".join(" ".join([*fields[:3], "00", *fields[4:5]]) + "\n" for fields in lines))
+        self.assertEqual([user._replace(mark=b"") for user in self.book().users.values()], whole)
 
 
 class Copies(Case):

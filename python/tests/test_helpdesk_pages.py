@@ -34,7 +34,8 @@ if TYPE_CHECKING or HAS_PACKAGES and HAS_ARGON2:
     from wakdulg_helpdesk import pages, web
     from wakdulg_helpdesk.book import Book
     from wakdulg_helpdesk.keeping import Keeper
-    from wakdulg_helpdesk.members import Gate, Logs, Row, State
+    from wakdulg_helpdesk.members import Gate, Logs, State
+    from wakdulg_helpdesk.naming import Row
     from wakdulg_helpdesk.record import Record, check
     from wakdulg_helpdesk.sessions import Sessions
     from wakdulg_helpdesk.staff import check_staff, hashes_of, names_of

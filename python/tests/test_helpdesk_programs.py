@@ -107,6 +107,23 @@ class Programs(InFolder):
             self.assertEqual((status, "others may read" in told, "chmod" in told), (2, True, True), told)
             self.assertIn(name, told.rpartition("chmod")[2])
 
+    @NEEDS_ALL
+    def test_a_cluster_without_names(self) -> None:
+        """Without names self-service doesn't start, and neither does a helpdesk that has words for a change."""
+        for name, text in (("cluster", CLUSTER.partition("\n")[2]), ("users", ""), ("record", ""),
+                           ("staff", self.staff_line("sam")[1] + self.staff_line("kim")[1]),
+                           ("front.key", "0c" * 32), ("operator", "operator 900 " + "0c" * 32)):
+            Path(name).write_text(text)
+            Path(name).chmod(0o600)
+        words = ["--key-file", "7:front.key", "--cluster", "cluster", "--users", "users", "--staff", "staff",
+                 "--record", "record", "--issuer", "Site", "none/socket", "https://site.example"]
+        desk, own = ("wakdulg-helpdesk", "--operator", "operator"), ("wakdulg-self-service", "--allow", "resync")
+        for (program, *more), name in ((own, "self-service"), ((*desk, "--push", "true"), "--push"),
+                                       ((*desk, "--tell", "true"), "--tell"), ((*desk, "--two-of-staff"), "--two-of")):
+            status, _, told = self.run_it(self.lib / program, *more, *words)
+            said = "error: the cluster file gives no names: cluster. %s" % name
+            self.assertEqual((status, said in told, "let-users-come-and-go.md" in told), (2, True, True), told)
+
     @NEEDS_ARGON2
     def test_a_line_of_staff(self) -> None:
         for role in "look", "unlock", "enrol", "all":

@@ -7,10 +7,12 @@ from typing import Callable, Sequence
 
 from wakdulg_helpdesk.book import User
 from wakdulg_helpdesk.everybody import locked_now, never_used, not_in_place
-from wakdulg_helpdesk.members import Gate, Row, State
+from wakdulg_helpdesk.members import Gate, State
+from wakdulg_helpdesk.naming import ByNames, ByPlaces, Row
 from wakdulg_helpdesk.verdict import lasting, verdict
 
 NOW = 1_800_000_000
+NAMES, PLACES = ByNames(b"trial-of-verdicts"), ByPlaces()
 EVENT = User(b"ann", "HOTP/E/6", token=b"aa")
 TIME = User(b"ann", "HOTP/T30/6", token=b"aa")
 GONE = User(b"ann")
@@ -38,6 +40,23 @@ def gone(member: int) -> State:
 
 
 STEP = NOW // 30
+# The same for a cluster without names, where it differs.
+PLACED = [
+    (EVENT, [yes(1), yes(2), yes(3)], "can", "Can log in."),
+    (EVENT, [yes(1), yes(2), other(3)], "can", "Can log in; other files at member 3, where nobody gets in."),
+    (EVENT, [yes(1, 0, NOW + 9), yes(2, 0, NOW + 5), no(3)], "locked",
+     "Locked at members 1 and 2, opens in 5 s; other files at member 3, where nobody gets in."),
+    (EVENT, [yes(1), other(2), other(3)], "unseen",
+     "Can't be seen: the files of this site and of members 2 and 3 differ."),
+    (EVENT, [yes(1), no(2), silent(3)], "unseen",
+     "Can't be seen: the files of this site and of member 2 differ; member 3 is silent."),
+    (EVENT, [silent(1), silent(2), silent(3)], "unseen", "Can't be seen: no member answers."),
+    (EVENT, [yes(1), silent(2), silent(3)], "unseen", "Can't be seen: only 1 of 3 members answers."),
+    (GONE, [other(1), other(2), other(3)], "unseen",
+     "Can't be seen: the users file of this site has no row of the user."),
+    (GONE, [State(member, "no", True) for member in (1, 2, 3)], "unseen",
+     "Can't be seen: the users file of this site has no row of the user."),
+]
 # The user, what the members say, and the verdict.
 CASES = [
     (EVENT, [yes(1), yes(2), yes(3)], "can", "Can log in."),
@@ -106,10 +125,11 @@ CASES = [
 
 class Verdicts(unittest.TestCase):
     def test_the_table(self) -> None:
-        """Each case of the table."""
-        for user, states, word, text in CASES:
-            found = verdict(user, states, NOW)
-            self.assertEqual((found.word, found.text), (word, text), text)
+        """Each case of the tables."""
+        for naming, cases in (NAMES, CASES), (PLACES, PLACED):
+            for user, states, word, text in cases:
+                found = verdict(user, states, NOW, naming)
+                self.assertEqual((found.word, found.text), (word, text), text)
 
     def test_all_states(self) -> None:
         """No mixture of one to five members raises a fault, and the word is right by what members do."""
@@ -118,16 +138,18 @@ class Verdicts(unittest.TestCase):
         for size in range(1, 6):
             for forms in product(all_forms, repeat=size):
                 states = [form(number) for number, form in enumerate(forms, 1)]
-                most, word = size // 2 + 1, verdict(EVENT, states, NOW).word
+                most, word = size // 2 + 1, verdict(EVENT, states, NOW, NAMES).word
                 heard, done = size - forms.count(silent), forms.count(yes)
                 wanted = "unseen" if heard < most else "can" if done >= most else "pending"
-                wrong, count = wrong + (word != wanted), count + 1
+                placed = verdict(EVENT, states, NOW, PLACES).word
+                wrong += (word != wanted) + (placed != ("can" if wanted == "can" else "unseen"))
+                count += 1
         self.assertEqual(wrong, 0, "%d mixtures" % count)
         wrong = 0
         for size in range(1, 6):
             for forms in product((gone, other, silent), repeat=size):
                 states = [form(number) for number, form in enumerate(forms, 1)]
-                most, word = size // 2 + 1, verdict(GONE, states, NOW).word
+                most, word = size // 2 + 1, verdict(GONE, states, NOW, NAMES).word
                 may = forms.count(other) > 0 and forms.count(other) + forms.count(silent) >= most
                 wanted = "unseen" if size - forms.count(silent) < most else "pending" if may else "retired"
                 wrong += word != wanted
@@ -143,12 +165,13 @@ class Verdicts(unittest.TestCase):
         users = {name: User(name, "HOTP/E/6", token=name * 2, begin=begin) for name, begin in counters.items()}
         users[b"t"] = User(b"t", "HOTP/T30/6", token=b"tt")
         here = {name: Row(0, user.token or b"", user.begin, name) for name, user in users.items()}
-        self.assertEqual(not_in_place(users, {1: here, 2: here, 3: here}), [])
+        self.assertEqual(not_in_place(users, {1: here, 2: here, 3: here}, NAMES), [])
         old, gone = {**here, b"b": Row(1, b"old", 0, b"b")}, {**here, b"z": Row(9, b"zz", 3, b"z")}
         lack = {name: row for name, row in here.items() if name != b"a"}
         rosters = {1: old, 2: gone, 3: {**lack, b"b": Row(1, b"old", 0, b"b")}}
-        self.assertEqual(not_in_place(users, rosters), [("a", "not at member 3"), ("b", "not at members 1, 3"),
-                                                        ("z", "retired, and still at member 2")])
+        lacking = [("a", "not at member 3"), ("b", "not at members 1, 3")]
+        for naming, where in (NAMES, "retired, and still at member 2"), (PLACES, "only at member 2"):
+            self.assertEqual(not_in_place(users, rosters, naming), [*lacking, ("z", where)])
         used = {**here, b"a": here[b"a"]._replace(floor=1)}
         kind = users[b"a"].kind()
         for rosters, names in (({1: here, 2: here, 3: here}, "abc"), ({1: here, 2: here}, "abc"), ({1: here}, ""),

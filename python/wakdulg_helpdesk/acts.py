@@ -15,6 +15,8 @@ from wakdulg_onboard.users_file import UsersFile
 
 # The rows of a users file, and how many faults of `oathd check` are looked for.
 MOST_ROWS, MOST_FAULTS = 10_000, 10
+# The acts that change the users file.
+CHANGES = frozenset({"enrol", "replace", "retire", "import"})
 KINDS = {"totp": "An app that shows a new code every 30 seconds", "hotp": "A device that counts presses of a button"}
 CODE = re.compile("[0-9]{6,8}")
 Form = Mapping[str, str]

@@ -4,7 +4,6 @@ from __future__ import annotations
 import contextlib
 import functools
 import hashlib
-import hmac
 import os
 import re
 import shlex
@@ -15,6 +14,7 @@ import time
 from typing import Callable, Iterator, NamedTuple
 
 from wakdulg_helpdesk.cluster_file import ClusterFile
+from wakdulg_helpdesk.naming import NO_NAMES, Naming
 from wakdulg_onboard.tokens import Fault, Row, Token, read_rows
 from wakdulg_onboard.users_file import UsersFile, ask_oathd, lock_beside, sync_folder
 
@@ -25,9 +25,9 @@ PASSWORDS = {b"-": "none", b"+": "not checked by the nodes"}
 
 
 class User(NamedTuple):
-    """A row of the users file, without its secret. `mark` differs if the row does. `token` is the name by which members
-    know the row's token: it differs if the user, the secret or the type does. A user without a row has none. `begin` is
-    the counter at which an event token begins."""
+    """A row of the users file, without its secret. `mark` differs if the row does. `token` is the word by which members
+    know the row's token: a name, which differs if the user, the secret or the type does, or the place of the row. A
+    user without a row has none. `begin` is the counter at which an event token begins."""
     name: bytes
     type: str = ""
     password: str = ""
@@ -86,10 +86,10 @@ def mark_of(row: Row) -> bytes:
     return hashlib.sha256(fields_of(row) + b"\t" + row.password).digest()
 
 
-def user_of(row: Row, names: bytes) -> User:
-    """Returns the user of a row. `names` is the cluster's word of names."""
+def user_of(row: Row, naming: Naming, place: int = 0) -> User:
+    """Returns the user of a row. `place` is that of the row in the users file, from 0."""
     password = PASSWORDS.get(row.password, "must be given")
-    token = hmac.digest(names, fields_of(row) + b"\n", "sha256")[:16].hex().encode()
+    token = naming.token_of(fields_of(row), place)
     begin = int(row.rest[0]) if row.rest and row.rest[0].isdigit() else 0
     return User(row.user, whole_type(row.type).decode(), password, mark_of(row), token, begin)
 
@@ -117,7 +117,7 @@ class Book:
         self.path, self.oathd, self.file, self.push = path, oathd, file, shlex.split(push or "")
         # What else copies the file, if this site has no hook.
         self.copier = "" if self.push else copier
-        self.cluster, self.names = file.keyless, file.names
+        self.cluster, self.naming = file.keyless, file.naming
         self.mark, self.said = os.path.realpath(path) + ".pending", ""
         self.stamp: tuple[int, int, int] | None = None
         self.users: dict[bytes, User] = {}
@@ -136,7 +136,9 @@ class Book:
                     return
                 with open(self.path, "rb") as file:
                     rows = read_rows(file.read())
-                users = sorted((user_of(row, self.names) for row in rows), key=lambda user: order_of(user.text))
+                self.naming.check_rows(rows)
+                users = [user_of(row, self.naming, place) for place, row in enumerate(rows)]
+                users.sort(key=lambda user: order_of(user.text))
                 self.users = {user.name: user for user in users}
                 self.folded = [(user.text.casefold(), user) for user in users]
                 self.stamp, self.fault = stamp, ""
@@ -155,7 +157,7 @@ class Book:
 
     def name_of(self, token: Token) -> str:
         """Returns the name that a new token gets at the members."""
-        return (user_of(read_rows(token.row("-"))[0], self.names).token or b"").decode()
+        return (user_of(read_rows(token.row("-"))[0], self.naming).token or b"").decode()
 
     def search(self, text: str) -> list[User]:
         """Returns the users whose names have the text, those that begin with it first."""
@@ -193,13 +195,20 @@ class Book:
         """Raises a fault if oathd doesn't take the text of a users file."""
         ask_oathd(self.oathd, text, self.cluster)
 
+    def want_names(self) -> None:
+        """Raises a fault if the cluster has no names: its users file isn't changed here."""
+        if not self.naming.may_change:
+            raise Fault("the cluster", "NoNames", NO_NAMES)
+
     def try_change(self, edit: Edit) -> None:
         """Raises the fault that a change would have now. It writes nothing."""
+        self.want_names()
         self.check(edit(UsersFile(self.path, create=False)))
 
     def change(self, edit: Edit) -> tuple[bool, str]:
         """Puts the text that `edit` makes of the file in its place, and has it copied to the members. Returns whether
         that succeeded, and what the hook said. The lock is held meanwhile, unless another site copies the file."""
+        self.want_names()
         with self.lock():
             users = UsersFile(self.path, create=False)
             text = edit(users)
@@ -240,7 +249,9 @@ class Book:
         sync_folder(self.mark)
 
     def pending(self) -> float | None:
-        """Returns the second since which not all members have the file, or None."""
+        """Returns the second since which not all members have the file, or None. Without names nothing is copied."""
+        if not self.naming.may_change:
+            return None
         try:
             return os.lstat(self.mark).st_mtime
         except FileNotFoundError:
@@ -260,13 +271,13 @@ class Book:
 
     def keep_copying(self) -> None:
         """Copies a pending file until all members have it, in a thread that ends with the process. A site without a
-        hook leaves that to another one."""
+        hook leaves that to another one, and without names nothing is copied."""
         def keep() -> None:
             while True:
                 begin = time.monotonic()
                 self.copy_pending()
                 self.await_mark(self.PAUSE + 4 * (time.monotonic() - begin))
-        if not self.copier:
+        if self.naming.may_change and not self.copier:
             threading.Thread(target=keep, daemon=True).start()
 
     def await_mark(self, seconds: float) -> None:

@@ -6,7 +6,8 @@ import time
 from typing import Any, Callable, List, Mapping, NamedTuple, Sequence, Tuple
 
 from wakdulg_helpdesk.book import Book, User
-from wakdulg_helpdesk.members import Gate, Member, Members, Row
+from wakdulg_helpdesk.members import Gate, Member, Members
+from wakdulg_helpdesk.naming import Naming, Row
 
 MOST = 50
 # A list of a name and some words about it.
@@ -47,7 +48,7 @@ def locked_now(gates: Mapping[int, Sequence[Gate]], now: int) -> Names:
         max(gate.failures for _, gate in each))) for user, each in sorted(found.items())]
 
 
-def not_in_place(users: Mapping[bytes, User], rosters: Mapping[int, Mapping[bytes, Row]]) -> Names:
+def not_in_place(users: Mapping[bytes, User], rosters: Mapping[int, Mapping[bytes, Row]], naming: Naming) -> Names:
     """Returns the users whose rows some members lack, and those of whom some have a row that the file hasn't."""
     found: dict[bytes, tuple[list[int], list[int]]] = {}
     for member, rows in rosters.items():
@@ -56,7 +57,7 @@ def not_in_place(users: Mapping[bytes, User], rosters: Mapping[int, Mapping[byte
                 found.setdefault(name, ([], []))[0].append(member)
         for name in rows.keys() - users.keys():
             found.setdefault(name, ([], []))[1].append(member)
-    words = {name: "not at " + numbered(lack) if lack else "retired, and still at " + numbered(more)
+    words = {name: "not at " + numbered(lack) if lack else naming.surplus + numbered(more)
              for name, (lack, more) in found.items()}
     return [(text_of(name), words[name]) for name in sorted(words)]
 
@@ -98,8 +99,8 @@ class Everybody:
         users, silent = self.book.users, sorted({each.number for each in self.members.all} - set(rosters))
         age = max((time.monotonic() - self.rosters[number][1] for number in rosters), default=0)
         now = time.time()
-        return Lists(locked_now(gates, int(now)), not_in_place(users, rosters), never_used(users, rosters, count),
-                     silent, count, int(now - age))
+        return Lists(locked_now(gates, int(now)), not_in_place(users, rosters, self.book.naming),
+                     never_used(users, rosters, count), silent, count, int(now - age))
 
     def told(self, call: Callable[[Member], Any]) -> dict[int, Any]:
         """Returns what members told, by their numbers. Silent ones aren't in it."""

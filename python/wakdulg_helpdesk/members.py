@@ -1,4 +1,4 @@
-"""What the members of a cluster by names tell an operator, by sealed requests, and what their logs have of a user."""
+"""What the members of a cluster tell an operator, by sealed requests, and what their logs have of a user."""
 from __future__ import annotations
 
 import concurrent.futures
@@ -7,15 +7,21 @@ import socket
 import subprocess
 import threading
 import time
+from collections import Counter
 from typing import Any, Callable, Dict, Iterator, Mapping, NamedTuple, Sequence, Tuple, TypeVar
 
 import wakdulg
 from wakdulg.operator import Operator, Request, Silent, hear, read_operator
 from wakdulg_helpdesk.book import User
 from wakdulg_helpdesk.cluster_file import ClusterFile
+from wakdulg_helpdesk.naming import Naming, Row
 from wakdulg_helpdesk.record import tail_of
 
 T = TypeVar("T")
+# A member's whole report if it refuses a request. Without names a line of a report may begin with `NO` too.
+REFUSAL = re.compile(rb"NO [A-Z]+")
+# The lines of STATUS that stay the same as long as a member has the same rows.
+OF_ROWS = (b"boot ", b"started ", b"fingerprint ")
 # What a page tells of the members: rows, what is said of them, a status and a moment.
 Told = Dict[str, Any]
 NOTHING: Told = {"rows": [], "said": "", "status": 2, "when": ""}
@@ -25,14 +31,6 @@ Answer = Tuple[int, str, str, str, str]
 
 class Refusal(Exception):
     """A member refused a request."""
-
-
-class Row(NamedTuple):
-    """A row of a member's store, with the name of its token."""
-    number: int
-    token: bytes
-    floor: int
-    user: bytes
 
 
 class Gate(NamedTuple):
@@ -48,18 +46,12 @@ def gate_of(line: bytes) -> Gate:
     return Gate(user, int(failures), int(until))
 
 
-def row_of(line: bytes) -> Row:
-    """Returns the row of a line of ROSTER."""
-    fields = line.split(b" ", 4)
-    return Row(int(fields[1]), fields[2], int(fields[3]), fields[4])
-
-
 class Member:
     """One member, and where its store has the row of each user. A store never moves a row, and a user's row changes at
     a new boot alone."""
 
-    def __init__(self, number: int, address: wakdulg.Node, key: Operator, pause: float) -> None:
-        self.number, self.address, self.key, self.pause = number, address, key, pause
+    def __init__(self, number: int, address: wakdulg.Node, key: Operator, pause: float, naming: Naming) -> None:
+        self.number, self.address, self.key, self.pause, self.naming = number, address, key, pause, naming
         self.boot, self.count, self.lock = b"", 0, threading.Lock()
         self.places: dict[bytes, int] = {}
 
@@ -72,7 +64,7 @@ class Member:
                 data = self.hear(client, asked)
                 if data is not None:
                     lines = data.split(b"\n")[:-1]
-                    if lines and lines[0].startswith(b"NO "):
+                    if lines and REFUSAL.fullmatch(lines[0]):
                         raise Refusal(lines[0].decode("ascii", "replace"))
                     return lines
         raise Silent("member %d" % self.number)
@@ -111,20 +103,34 @@ class Member:
         """Returns the lines of a whole report."""
         return self.again(lambda: list(self.pages(word, begin)))
 
+    def row_of(self, number: int, line: bytes) -> Row:
+        """Returns the row of a line. Refuses a line of another kind of cluster."""
+        try:
+            return self.naming.row_of(number, line)
+        except ValueError:
+            raise Refusal("the rows of another kind of cluster") from None
+
     def row_at(self, place: int, user: bytes) -> Row | None:
         """Returns the row at a place, if it is the user's. It takes two pages at most."""
+        word, line = self.naming.report, self.naming.heads + place
+
         def ask() -> Row | None:
-            lines, at = self.request(b"ROSTER 0"), place
+            lines, at = self.request(b"%b 0" % word), line
             if at >= len(lines) - 1 and lines[-1] != b"end":
-                lines, at = self.request(b"ROSTER %d" % place), 0
-            return row_of(lines[at]) if at < len(lines) - 1 else None
+                lines, at = self.request(b"%b %d" % (word, line)), 0
+            return self.row_of(place, lines[at]) if at < len(lines) - 1 else None
         row = self.again(ask)
         return row if row and row.user == user else None
 
+    def rows(self, begin: int = 0) -> list[Row]:
+        """Returns the rows from a place on."""
+        lines = self.report(self.naming.report, self.naming.heads + begin)
+        return [self.row_of(number, line) for number, line in enumerate(lines, begin)]
+
     def learn(self, begin: int) -> dict[bytes, Row]:
         """Returns the rows from a place on by their users, and keeps in mind where they are."""
-        rows = [row_of(line) for line in self.report(b"ROSTER", begin)]
-        found = {row.user: row for row in rows if row.user != b"-"}
+        rows = self.rows(begin)
+        found = {row.user: row for row in rows if row.user}
         self.places = {} if begin == 0 else self.places
         self.places.update({user: row.number for user, row in found.items()})
         self.count = begin + len(rows)
@@ -147,8 +153,12 @@ class Member:
             return found.get(user)
 
     def boot_now(self) -> bytes:
-        """Returns the line of STATUS that has the boot of the member."""
-        return next(line for line in self.request(b"STATUS 0") if line.startswith(b"boot "))
+        """Returns what STATUS says that changes when the member may have other rows."""
+        return b"\n".join(line for line in self.request(b"STATUS 0") if line.startswith(OF_ROWS))
+
+    def fingerprint(self) -> bytes:
+        """Returns the fingerprint of the member, which differs if its files do. By names the users file isn't in it."""
+        return next(line for line in self.request(b"STATUS 0") if line.startswith(b"fingerprint "))
 
     def gates(self) -> list[Gate]:
         """Returns the gates of all users who failed."""
@@ -156,8 +166,7 @@ class Member:
 
     def roster(self) -> dict[bytes, Row]:
         """Returns the rows by their users. Those of retired tokens have none."""
-        rows = (row_of(line) for line in self.report(b"ROSTER"))
-        return {row.user: row for row in rows if row.user != b"-"}
+        return {row.user: row for row in self.rows() if row.user}
 
     def gate(self, user: bytes) -> tuple[int, int]:
         """Returns the failures of a user in a row and the second at which the token opens, or 0 and 0."""
@@ -170,7 +179,7 @@ class Member:
 
 class State(NamedTuple):
     """What one member says of a user. `says` is "yes" if it has the token of the users file, "another" if it has one of
-    another secret or kind, "no", or "silent". `is_done` is whether it has what the users file says."""
+    another secret or kind, or other files, "no", or "silent". `is_done` is whether it has what the users file says."""
     member: int
     says: str
     is_done: bool = False
@@ -179,21 +188,35 @@ class State(NamedTuple):
     until: int = 0
 
 
-def settled(states: Sequence[State], what: str) -> str:
+def settled(states: Sequence[State], what: str, naming: Naming) -> str:
     """Returns how many members have what the users file says. It is in force if they are more than half: no vote can
     pass by the others alone."""
     done, count = sum(state.is_done for state in states), len(states)
-    more = "" if done == count else ": in force, and pending at the others" if 2 * done > count else ": pending"
+    more = "" if done == count else naming.in_force if 2 * done > count else naming.not_in_force
     return "%d of %d members %s%s." % (done, count, what, more)
+
+
+def with_prints(states: Sequence[State], prints: Sequence[bytes | Exception]) -> list[State]:
+    """Returns the states of members without names, whose rows tell no secret. `prints` are their fingerprints. A member
+    whose fingerprint isn't the most frequent one has other files. If several are the most frequent ones, all members
+    have other files."""
+    told = Counter(each for each in prints if isinstance(each, bytes)).most_common(2)
+    right = told[0][0] if told and (len(told) == 1 or told[0][1] > told[1][1]) else b""
+
+    def compared(state: State, each: bytes | Exception) -> State:
+        if state.says == "silent" or isinstance(each, Exception):
+            return State(state.member, "silent")
+        return state if each == right else state._replace(says="another", is_done=False)
+    return [compared(*pair) for pair in zip(states, prints)]
 
 
 class Members:
     """The members of a cluster file, in order."""
 
     def __init__(self, file: ClusterFile, operator_file: str, oathd: str, patience: float) -> None:
-        self.oathd, self.operator_file, self.keyless = oathd, operator_file, file.keyless
+        self.oathd, self.operator_file, self.keyless, self.naming = oathd, operator_file, file.keyless, file.naming
         key = read_operator(operator_file)
-        self.all = [Member(number, wakdulg.read_node(node), key, patience / 8)
+        self.all = [Member(number, wakdulg.read_node(node), key, patience / 8, file.naming)
                     for number, node in enumerate(file.nodes.split(","), 1)]
         self.pool = concurrent.futures.ThreadPoolExecutor(4 * len(self.all))
 
@@ -221,7 +244,8 @@ class Members:
 
     def states(self, user: User) -> list[State]:
         """Returns what each member says of a user."""
-        return self.ask_all(lambda member: self.state_at(member, user))
+        states = self.ask_all(lambda member: self.state_at(member, user))
+        return states if self.naming.may_change else with_prints(states, self.ask_all(Member.fingerprint))
 
     def unlock(self, user: bytes) -> str:
         """Returns a word for each member: unlocked, or what hinders it."""

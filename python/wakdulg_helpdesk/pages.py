@@ -4,8 +4,9 @@ from __future__ import annotations
 import json
 import re
 import time
+from functools import partial
 from itertools import islice, takewhile
-from typing import Any, Callable, Iterator, NamedTuple
+from typing import Any, Callable, Iterator, NamedTuple, NoReturn
 from urllib.parse import urlencode
 
 from flask import Flask, Response, abort, jsonify, redirect, render_template, request
@@ -13,11 +14,12 @@ from flask.typing import ResponseReturnValue as Reply
 
 import wakdulg
 from wakdulg_helpdesk import record_view, web, words
-from wakdulg_helpdesk.acts import KINDS, Act, Shown
+from wakdulg_helpdesk.acts import CHANGES, KINDS, Act, Shown
 from wakdulg_helpdesk.book import User
 from wakdulg_helpdesk.everybody import MOST, Everybody
 from wakdulg_helpdesk.keeping import Kept
 from wakdulg_helpdesk.members import Logs, Members, Table, settled
+from wakdulg_helpdesk.naming import NO_NAMES
 from wakdulg_helpdesk.passwords import Passwords
 from wakdulg_helpdesk.record import BEGINS, REFUSED, Line, second_of
 from wakdulg_helpdesk.sessions import Session, is_same
@@ -44,6 +46,10 @@ LOST = "The browser of %s has the new secret no more. Nothing was done. Ask for 
 OF_TWO = frozenset({"replace", "import"})
 RETIRED = (BEGINS, "retired", "the users file is changed")
 COUNTED, HOUR = ROLES["all"], 3600
+# The addresses that a cluster without names refuses, and the act that the record has of a form that was sent there.
+CHANGING = {"/enrol": "enrol", "/import": "import", "/import/<name>": "import", "/users/<name>/replace": "replace",
+            "/users/<name>/retire": "retire", "/users/<name>/secret": "confirm", "/users/<name>/seen": "confirm",
+            "/waiting": "confirm", "/waiting/<id>": "confirm"}
 PENDING = "Pending since %s: not all members have the users file. It is copied again by itself. %s"
 
 
@@ -81,6 +87,7 @@ class Site(web.Pages):
     def __init__(self, parts: web.Parts, members: Members, table: Table, logs: Logs, staff: str, most_acts: int,
                  is_of_two: bool) -> None:
         super().__init__(parts)
+        self.naming = self.book.naming
         self.members, self.table, self.logs, self.everybody = members, table, logs, Everybody(members, self.book)
         self.staff, self.passwords = staff, Passwords(lambda: hashes_of(staff))
         self.most_acts, self.waiting, self.of_two = most_acts, Waiting(), OF_TWO if is_of_two else frozenset()
@@ -112,7 +119,8 @@ class Site(web.Pages):
 
     def rights(self, session: Session) -> frozenset[str]:
         """Returns the acts that the user of a session may make."""
-        return rights_of(self.staff).get(session.user, frozenset())
+        rights = rights_of(self.staff).get(session.user, frozenset())
+        return rights if self.naming.may_change else rights - CHANGES
 
     def places_of(self, session: Session) -> list[tuple[str, str]]:
         wants = {"/enrol": "enrol", "/import": "import"}
@@ -120,11 +128,20 @@ class Site(web.Pages):
                 if (self.of_two if path == "/waiting" else wants.get(path, "") in {"", *self.rights(session)})]
 
     def entitle(self, session: Session, act: str) -> None:
-        """Stops whoever has no right to an act. The record has a form that was sent without one."""
+        """Stops whoever has no right to an act."""
         if act not in self.rights(session):
-            if request.method == "POST":
-                session.alert = self.note(session.user, act, "", REFUSED + ": no right")
-            raise Stop((self.page("message.html", "Not allowed", session, fault=NO_RIGHT), 403))
+            self.forbid(session, act, "no right", NO_RIGHT)
+
+    def forbid(self, session: Session, act: str, why: str, fault: str) -> NoReturn:
+        """Stops an act before anything is asked for. The record has a form that was sent."""
+        if request.method == "POST":
+            session.alert = self.note(session.user, act, "", "%s: %s" % (REFUSED, why))
+        raise Stop((self.page("message.html", "Not allowed", session, fault=fault), 403))
+
+    def refuse_change(self, act: str, **_: str) -> NoReturn:
+        """Answers each address of an act that changes the users file, in a cluster without names."""
+        session = self.posted() if request.method == "POST" else self.own_session()
+        self.forbid(session, act, "no names", NO_NAMES)
 
     def too_many(self, who: str) -> str:
         """Looks how many acts somebody began within an hour, as the record has it."""
@@ -177,8 +194,8 @@ class Site(web.Pages):
         """Returns what a page tells of the members and a user."""
         states, now = self.members.states(user), int(time.time())
         what = "have the row" if user.token else "have no row of the user"
-        return {"user": user, "states": states, "settled": settled(states, what), "now": now,
-                "verdict": verdict(user, states, now)}
+        return {"user": user, "states": states, "settled": settled(states, what, self.naming), "now": now,
+                "naming": self.naming, "verdict": verdict(user, states, now, self.naming)}
 
     def outcome_of(self, line: Line) -> str:
         """Returns the outcome of an act. One that begins in the record and has no outcome was lost midway, or is being
@@ -223,19 +240,22 @@ class Site(web.Pages):
         """Returns a table with what the page says of it. Members that all serve an older users file are well, and the
         file isn't in force."""
         pending = "" if self.book.pending() is None else "the members are well, and not all have the users file"
-        rows = [[*row[:-1], words.of_note(row[-1])] for row in table["rows"] if row]
+        rows = [[*row[:-1], words.of_note(row[-1], self.naming.notes)] for row in table["rows"] if row]
         return {**table, "rows": rows, "said": table["said"] or pending or "all members are well"}
 
     def show_cluster(self) -> Reply:
         session = self.own_session()
-        return self.page("cluster.html", "The cluster", session, table=self.told(self.table.now()[1]),
-                         lists=self.everybody.now(), most=MOST)
+        return self.page("cluster.html", "The cluster", session, table=self.told(self.table.now()[1]), **self.lists())
 
     def show_lists(self) -> Reply:
         """A part of the page of the cluster. It doesn't keep the session alive."""
         if self.session(is_used=False) is None:
             return "", 401
-        return render_template("lists.html", lists=self.everybody.now(), most=MOST)
+        return render_template("lists.html", **self.lists())
+
+    def lists(self) -> dict[str, Any]:
+        """Returns what a page tells of all users."""
+        return {"lists": self.everybody.now(), "most": MOST, "naming": self.naming}
 
     def events(self) -> Reply:
         """Sends a table whenever there is a new one, while the session lives. It doesn't keep the session alive."""
@@ -272,6 +292,9 @@ class Site(web.Pages):
                         headers={"Content-Disposition": "attachment; filename=record.csv"})
 
     # ---- Acts
+
+    def words_of(self, fault: Exception) -> str:
+        return words.of_fault(fault, self.naming.answers)
 
     def perform(self, session: Session, act: Act) -> tuple[str, int]:
         """Does an act after the second code of staff, or asks another one of staff for it. Returns "" and 303, or a
@@ -510,4 +533,11 @@ def make_application(site: Site) -> Flask:
         ("/users/<name>/seen", site.confirm_seen, "POST"), ("/users/<name>/retired", site.show_retired, "GET"),
         ("/users/<name>/<act>", site.show_act, "GET"), ("/users/<name>/<act>", site.do_act, "POST"),
     ]
-    return web.make_application(site, routes)
+    if not site.naming.may_change:
+        routes = [route for route in routes if route[0] not in CHANGING]
+        routes += [(path, partial(site.refuse_change, act), method) for path, act in CHANGING.items()
+                   for method in ("GET", "POST")]
+    application = web.make_application(site, routes)
+    said = (words.of_answer, words.of_fault, words.of_outcome)
+    application.jinja_env.filters.update({each.__name__: partial(each, answers=site.naming.answers) for each in said})
+    return application

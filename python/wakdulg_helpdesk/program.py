@@ -1,4 +1,4 @@
-"""A helpdesk in the browser: staff look at users and at a cluster by names, unlock, resynchronize, enrol and retire.
+"""A helpdesk in the browser: staff look at users and at a cluster, unlock, resynchronize, enrol and retire.
 
     helpdesk --key-file NUMBER:FILE --operator FILE --cluster FILE --users FILE --staff FILE --record FILE
              --issuer NAME [--push COMMAND] [--tell COMMAND] [--log I=FILE]... [--patience SECONDS] [--two-of-staff]
@@ -12,7 +12,9 @@ it to the members, as push-users does. --tell is a command that tells a user of 
 a sentence as two lines of standard input. --staff has a name, the hash of a password and a role on each line, as
 staff-line makes them. --record is the file of what staff did. --log names the log of member I on this host.
 --two-of-staff: to replace a phone and to import a file wants another one of staff, who confirms. --acts (60) is how
-many acts one of staff may begin within an hour. OATHD is the program, else oathd. docs/how-to/helpdesk.md shows it.
+many acts one of staff may begin within an hour. Without names in the cluster file the users file stays as it is: staff
+look, unlock and resynchronize alone, and --push, --tell and --two-of-staff are refused. OATHD is the program, else
+oathd. docs/how-to/helpdesk.md shows it.
 
 Packages: python3-flask, python3-argon2, python3-cryptography, gunicorn, qrencode. Each answer to a code of staff is a
 line of standard output.
@@ -57,6 +59,9 @@ def main() -> None:
     try:
         check_staff(words.staff, 2 if words.two_of_staff else 0)
         file = ClusterFile(words.cluster)
+        for name in "push", "tell", "two_of_staff":
+            if getattr(words, name):
+                file.want_names("--" + name.replace("_", "-"))
         members = Members(file, words.operator, oathd(), words.patience)
         sessions = Sessions("helpdesk", idle=15 * 60, longest=4 * 3600)
         parts = parts_of(words, file, sessions, keeper_of(words, "helpdesk", longest=3600), members)

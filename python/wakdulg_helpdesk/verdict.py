@@ -6,6 +6,7 @@ from typing import NamedTuple, Sequence
 
 from wakdulg_helpdesk.book import User
 from wakdulg_helpdesk.members import State
+from wakdulg_helpdesk.naming import Naming
 
 
 class Verdict(NamedTuple):
@@ -70,7 +71,7 @@ class Look:
         return floors[self.most - 1] * (self.user.period() or 0)
 
 
-def verdict(user: User, states: Sequence[State], now: int) -> Verdict:
+def verdict(user: User, states: Sequence[State], now: int, naming: Naming) -> Verdict:
     """Returns whether a user can log in, and why not. `user` is what the users file says now."""
     look = Look(user, states, now)
     if not look.heard:
@@ -78,9 +79,19 @@ def verdict(user: User, states: Sequence[State], now: int) -> Verdict:
     if len(look.heard) < look.most:
         number = "only %d of %d members answer%s" % (len(look.heard), look.count, "s" * (len(look.heard) == 1))
         return Verdict("unseen", "Can't be seen: %s." % number, False)
-    if user.token is None:
-        return retired(look)
-    return in_force(look) if len(look.done) >= look.most else pending(look)
+    if user.token is not None and len(look.done) >= look.most:
+        return in_force(look, naming)
+    if not naming.may_change:
+        return astray(look)
+    return retired(look) if user.token is None else pending(look)
+
+
+def astray(look: Look) -> Verdict:
+    """Less than a majority has the row of this site's users file, and no member takes another file while it serves."""
+    if look.user.token is None:
+        return Verdict("unseen", "Can't be seen: the users file of this site has no row of the user.", False)
+    text = "Can't be seen: the files of this site and of %s differ" % members_of(look.late)
+    return Verdict("unseen", text + look.rests(), False)
 
 
 def retired(look: Look) -> Verdict:
@@ -104,9 +115,9 @@ def pending(look: Look) -> Verdict:
     return Verdict("pending", text + ": nobody gets in by this row" + look.rests(), False)
 
 
-def in_force(look: Look) -> Verdict:
+def in_force(look: Look, naming: Naming) -> Verdict:
     """A majority has the row."""
-    late = "pending at %s, where the right code is refused" % members_of(look.late) if look.late else ""
+    late = naming.late % members_of(look.late) if look.late else ""
     locked = "locked at %s, %s" % (members_of(look.locked), look.opens(look.locked)) if look.locked else ""
     is_settled = not look.late and not look.locked and not look.silent
     if len(look.locked) == len(look.done):

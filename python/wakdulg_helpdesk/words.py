@@ -5,6 +5,7 @@ from __future__ import annotations
 
 import errno
 import re
+from typing import Mapping
 
 RUNS = "tell whoever runs this site"
 # The answers of nodes to logins, and of a client that hears none.
@@ -74,20 +75,20 @@ OUTCOME = re.compile(r"(refused|failed|the users file is changed, and then|not c
 REFUSED_FILE = re.compile(r"oathd: (?P<short>[^\n]*)(?:\s+/dev/stdin (?P<long>.*))?", re.DOTALL)
 
 
-def of_answer(text: str) -> str:
+def of_answer(text: str, answers: Mapping[str, str] = ANSWERS) -> str:
     """Returns what a page says of the reason of an answer. Other words stay."""
     found = ANSWER.fullmatch(text)
     if not found:
         return text
     seconds = found[2].strip() + " s" if found[2] else "some seconds"
-    words = ANSWERS[found[1]].replace("%s", seconds)
+    words = answers[found[1]].replace("%s", seconds)
     doubt = ". The code may be used up" if found[3] else ""
     return "%s%s (%s)" % (words, doubt, text)
 
 
-def of_note(text: str) -> str:
+def of_note(text: str, notes: Mapping[str, str] = NOTES) -> str:
     """Returns what a page says of a note of `oathd status`. Other notes stay, as `ok`."""
-    return "%s (%s)" % (NOTES[text], text) if text in NOTES else text
+    return "%s (%s)" % (notes[text], text) if text in notes else text
 
 
 def of_members(text: str) -> str:
@@ -108,7 +109,7 @@ def of_system(fault: OSError) -> str:
     return "%s (%s)" % (DISK.get(fault.errno or 0, "the system refused it"), name_of(fault))
 
 
-def of_fault(fault: Exception | str) -> str:
+def of_fault(fault: Exception | str, answers: Mapping[str, str] = ANSWERS) -> str:
     """Returns what a page says of a fault, or of the text of one."""
     if isinstance(fault, OSError):
         why = DISK.get(fault.errno or 0, "the system refused it")
@@ -118,7 +119,7 @@ def of_fault(fault: Exception | str) -> str:
         return str(fault)
     place, name, own = found.groups()
     if name == "refused":
-        return "the cluster refused it. " + of_answer(own)
+        return "the cluster refused it. " + of_answer(own, answers)
     if name == "refuses the new file":
         return of_refused_file(own)
     words = INSTEAD.get(name, OPTION.sub("", own))
@@ -134,11 +135,11 @@ def of_refused_file(said: str) -> str:
         long or short, "refuses the new file: " + short)
 
 
-def of_outcome(text: str) -> str:
+def of_outcome(text: str, answers: Mapping[str, str] = ANSWERS) -> str:
     """Returns what a page says of the outcome of an act, as the record has it."""
     found = OUTCOME.fullmatch(text)
     if not found:
         return of_members(text)
     rest = found[2]
-    told = of_answer(rest) if ANSWER.fullmatch(rest) else of_fault(rest)
+    told = of_answer(rest, answers) if ANSWER.fullmatch(rest) else of_fault(rest, answers)
     return "%s: %s" % (found[1], told)

@@ -6,10 +6,10 @@
 ACT is `resync` or `replace`, and without one nothing starts: whoever has a phone and its password for a minute can take
 the token for good by `replace`. Only users with a password in the users file are served, and none of --staff, of which
 it reads the first word of each line. All other words are as for `helpdesk`, whose modules it takes. An operator's key
-it hasn't. It may run beside the helpdesk over the same users file, as another user with files of its own.
-Without --push the helpdesk copies the users file: it does so when the mark `users.pending` appears. --late (120): if no
-code of a new phone was accepted for this time, the page says that something is wrong. OATHD is the program, else oathd.
-docs/how-to/self-service.md shows it.
+it hasn't. It wants a cluster file with names. It may run beside the helpdesk over the same users file, as another user
+with files of its own. Without --push the helpdesk copies the users file: it does so when the mark `users.pending`
+appears. --late (120): if no code of a new phone was accepted for this time, the page says that something is wrong.
+OATHD is the program, else oathd. docs/how-to/self-service.md shows it.
 
 Packages: python3-flask, python3-cryptography, gunicorn, qrencode. Each answer of the cluster is a line of standard
 output.
@@ -31,9 +31,11 @@ def main() -> None:
     parser.add_argument("--late", type=float, default=120.0)
     words = parser.parse_args()
     try:
+        file = ClusterFile(words.cluster)
+        file.want_names("self-service")
         sessions = Sessions("self-service", idle=5 * 60, longest=10 * 60)
         keeper = keeper_of(words, "self-service", longest=10 * 60)
-        parts = parts_of(words, ClusterFile(words.cluster), sessions, keeper, copier="the helpdesk")
+        parts = parts_of(words, file, sessions, keeper, copier="the helpdesk")
     except (ValueError, OSError) as fault:
         parser.error(str(fault))
 
