@@ -204,7 +204,7 @@ class Test:
         """Results while typing, markup in names."""
         browser = self.browser
         browser.open("/")
-        browser.fill("A part of the name", "an")
+        browser.fill("A part of the name or of the serial number", "an")
         await_that("found while typing", lambda: browser.text("#count"), "1 found", 60)
         browser.picture("search")
         browser.keys(Keys.BACKSPACE, Keys.BACKSPACE, "<img")
@@ -245,7 +245,7 @@ class Test:
     def type_a_search(self):
         browser = self.browser
         browser.open("/")
-        browser.tab_to("A part of the name")
+        browser.tab_to("A part of the name or of the serial number")
         for number in range(30):
             browser.keys(Keys.CONTROL, "a", Keys.NULL, "user%02d.a" % number)
             time.sleep(0.1)

@@ -118,6 +118,27 @@ class Users(Case):
             done = "%d of %d members have the row" % (states.count(yes), len(states))
             self.assertEqual(settled(states, "have the row", ByNames(b"trial")), done + told)
 
+    def test_serial_numbers(self) -> None:
+        """The remark above a row is the serial number of its token, and goes with the token."""
+        lines = Path("users").read_text().splitlines()
+        lines[2:3] = ["# AB-17", lines[2], "# two words"]
+        Path("users").write_text("\n".join(["# 0001", *lines, ""]))
+        book = self.book()
+        self.assertEqual({user.text: user.serial for user in book.users.values() if user.serial}, {"user2": "AB-17"})
+        for text, found in ("b-17", ["user2"]), ("AB", ["user2"]), ("0001", []), ("7", ["user2", "user7"]):
+            self.assertEqual([user.text for user in book.search(text)], found, text)
+        self.assertEqual(len(book.search("")), len(TYPES))
+        self.assertRegex(user_in(book, b"user2").described(), "^event token, .*, serial number AB-17$")
+        self.assertEqual(user_in(book, b"user1").described(), user_in(book, b"user1").kind())
+        before = Path("users").read_text()
+        for new in b"", b"HOTP user2 - 31\n":
+            book.change(with_row(b"user2", user_in(book, b"user2").mark, new))
+            wanted = before.replace("# AB-17\n%s\n" % lines[3], new.decode())
+            self.assertEqual(Path("users").read_text(), wanted, "the other remarks stay")
+            Path("users").write_text(before)
+        book.change(with_rows([Token("the list", bytes(range(20)), "hotp", user="new", serial="<17>")]))
+        self.assertEqual(user_in(book, b"new").serial, "<17>")
+
     @NEEDS_QRENCODE
     def test_kinds(self) -> None:
         """A new secret leaves a row as it is but for the secret."""

@@ -561,6 +561,18 @@ class Pages(Case):
         for browser, path in (sam, "/?q=user"), (sam, "/"), (kim, "/?q=new+one"):
             self.assertNotIn('id="enrol">', browser.ask(path).page, path)
 
+    def test_serial_numbers(self) -> None:
+        """A token is found by its serial number, which its user's page and the search show."""
+        Path("users").write_text(rows_of(*STAFF) + "# <b>17\n" + rows_of(*STAFF, *USERS).split("\n")[2] + "\n")
+        sam = Site().log_in()
+        for path in "/?q=%3Cb%3E1", "/?q=ann", place("ann"):
+            self.assertIn("<b>17", html.unescape(sam.ask(path).page))
+            self.assertNotIn("<b>", sam.page)
+        self.assertIn("<dt>Serial number</dt><dd>&lt;b&gt;17</dd>", sam.page)
+        found = json.loads(sam.ask("/search.json?q=17").page)["users"]
+        self.assertEqual([each[1:] for each in found], [["ann", "event token, 6 digits, SHA-1, serial number <b>17"]])
+        self.assertNotIn("Serial number", sam.ask(place("sam")).page)
+
     def test_the_pages_of_a_search(self) -> None:
         """Links lead to all users that were found, a page after the other, and back. The address has page and text."""
         Path("users").write_text(rows_of(*STAFF, *("u&%d" % number for number in range(1, 121)), "z"))

@@ -27,13 +27,15 @@ PASSWORDS = {b"-": "none", b"+": "not checked by the nodes"}
 class User(NamedTuple):
     """A row of the users file, without its secret. `mark` differs if the row does. `token` is the word by which members
     know the row's token: a name, which differs if the user, the secret or the type does, or the place of the row. A
-    user without a row has none. `begin` is the counter at which an event token begins."""
+    user without a row has none. `begin` is the counter at which an event token begins, and `serial` the serial number
+    of the device, or ""."""
     name: bytes
     type: str = ""
     password: str = ""
     mark: bytes = b""
     token: bytes | None = None
     begin: int = 0
+    serial: str = ""
 
     @property
     def text(self) -> str:
@@ -68,6 +70,10 @@ class User(NamedTuple):
         what = "time token, steps of %d s" % period if period else "event token"
         return "%s, %d digits, %s" % (what, self.digits(), HASHES.get(self.hash(), "SHA-1"))
 
+    def described(self) -> str:
+        """Returns the kind of the token and its serial number, as far as it has one."""
+        return self.kind() + (", serial number " + self.serial if self.serial else "")
+
 
 @functools.lru_cache(maxsize=None)
 def whole_type(word: bytes) -> bytes:
@@ -91,7 +97,7 @@ def user_of(row: Row, naming: Naming, place: int = 0) -> User:
     password = PASSWORDS.get(row.password, "must be given")
     token = naming.token_of(fields_of(row), place)
     begin = int(row.rest[0]) if row.rest and row.rest[0].isdigit() else 0
-    return User(row.user, whole_type(row.type).decode(), password, mark_of(row), token, begin)
+    return User(row.user, whole_type(row.type).decode(), password, mark_of(row), token, begin, row.serial)
 
 
 def order_of(text: str) -> list[tuple[int, str]]:
@@ -121,7 +127,8 @@ class Book:
         self.mark, self.said = os.path.realpath(path) + ".pending", ""
         self.stamp: tuple[int, int, int] | None = None
         self.users: dict[bytes, User] = {}
-        self.folded: list[tuple[str, User]] = []
+        # The name, the serial number and the user of each row. Upper and lower case are the same in both texts.
+        self.folded: list[tuple[str, str, User]] = []
         self.fault = ""
         self.reading, self.writing = threading.Lock(), threading.Lock()
         self.refresh()
@@ -140,7 +147,7 @@ class Book:
                 users = [user_of(row, self.naming, place) for place, row in enumerate(rows)]
                 users.sort(key=lambda user: order_of(user.text))
                 self.users = {user.name: user for user in users}
-                self.folded = [(user.text.casefold(), user) for user in users]
+                self.folded = [(user.text.casefold(), user.serial.casefold(), user) for user in users]
                 self.stamp, self.fault = stamp, ""
             except (OSError, Fault) as fault:
                 self.fault = str(fault)
@@ -160,12 +167,12 @@ class Book:
         return (user_of(read_rows(token.row("-"))[0], self.naming).token or b"").decode()
 
     def search(self, text: str) -> list[User]:
-        """Returns the users whose names have the text, those that begin with it first."""
+        """Returns the users whose names or serial numbers have the text, those that begin with it first."""
         self.refresh()
         text = text.strip().casefold()
-        found = [pair for pair in self.folded if text in pair[0]]
-        found.sort(key=lambda pair: not pair[0].startswith(text))
-        return [user for _, user in found]
+        found = [each for each in self.folded if text in each[0] or text in each[1]]
+        found.sort(key=lambda each: not each[0].startswith(text) and not each[1].startswith(text))
+        return [user for _, _, user in found]
 
     @contextlib.contextmanager
     def lock(self, patience: float = 20) -> Iterator[None]:
@@ -321,12 +328,10 @@ def row_in(users: UsersFile, name: bytes, mark: bytes | None = None) -> Row:
 
 
 def with_row(name: bytes, mark: bytes, new: bytes) -> Edit:
-    """Returns an edit that puts `new` in the place of a user's row, or removes the row with b""."""
+    """Returns an edit that puts `new` in the place of a user's row, or removes the row with b"". The remark with the
+    serial number of the old token goes with it."""
     def edit(users: UsersFile) -> bytes:
-        row = row_in(users, name, mark)
-        lines = users.text.split(b"\n")
-        lines[row.line - 1:row.line] = [new.rstrip(b"\n")] if new else []
-        return b"\n".join(lines)
+        return users.text_without(row_in(users, name, mark), new.rstrip(b"\n") or None)[0]
     return edit
 
 

@@ -185,7 +185,7 @@ class Site(web.Pages):
         if self.session() is None:
             return jsonify({}), 401
         found = self.found()
-        told = {**found._asdict(), "users": [[user.hex, user.text, user.kind()] for user in found.users]}
+        told = {**found._asdict(), "users": [[user.hex, user.text, user.described()] for user in found.users]}
         answer = Response(json.dumps(told), content_type="application/json")
         answer.headers["Server-Timing"] = "search;dur=%.1f" % (1000 * (time.thread_time() - begin))
         return answer

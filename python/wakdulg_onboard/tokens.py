@@ -151,7 +151,8 @@ def read_word(words: Mapping[str, str], text: str, place: str, what: str) -> str
 
 @dataclass
 class Row:
-    """A row of a users file with the number of its line, from 1."""
+    """A row of a users file with the number of its line, from 1. `serial` is the serial number that the remark above it
+    has, or ""."""
 
     line: int
     type: bytes
@@ -159,6 +160,13 @@ class Row:
     password: bytes
     secret: bytes
     rest: list[bytes]
+    serial: str = ""
+
+
+def serial_of(line: bytes) -> str:
+    """Returns the serial number that a line has as a remark, or ""."""
+    found = SERIAL.fullmatch(line)
+    return found[1].decode("utf-8", "replace") if found else ""
 
 
 def read_rows(text: bytes) -> list[Row]:
@@ -175,12 +183,13 @@ def read_rows(text: bytes) -> list[Row]:
     except UnicodeDecodeError as fault:
         raise Fault("line %d of the users file" % (text[:fault.start].count(b"\n") + 1), "NotText",
                     "it is not UTF-8: iconv -f LATIN1 -t UTF-8, if it was written so") from None
-    for number, line in enumerate(text.split(b"\n"), 1):
+    lines = text.split(b"\n")
+    for number, (above, line) in enumerate(zip([b"", *lines], lines), 1):
         fields = [field for field in BLANKS.split(line) if field]
         if line.startswith(b"#") or not fields or not TYPE.fullmatch(fields[0]):
             continue
         if len(fields) < 4:
             raise Fault("line %d of the users file" % number, "MissingField", "a row has at least four fields")
         type, user, password, secret, *rest = fields
-        rows.append(Row(number, type, user, password, secret, rest))
+        rows.append(Row(number, type, user, password, secret, rest, serial_of(above)))
     return rows

@@ -10,7 +10,7 @@ import stat
 import subprocess
 from typing import Iterator, Sequence
 
-from wakdulg_onboard.tokens import SERIAL, Fault, Row, read_rows
+from wakdulg_onboard.tokens import Fault, Row, read_rows
 
 # The mode of a file that its group reads and writes.
 SHARED = stat.S_IRGRP | stat.S_IWGRP
@@ -59,9 +59,8 @@ class UsersFile:
         """Returns the text of the new file without a row, or with a new one in its place, and the serial number of the
         remark above it, or None. The remark goes with the token."""
         lines, at = self.text.split(b"\n"), row.line - 1
-        remark = SERIAL.fullmatch(lines[at - 1]) if at else None
-        lines[at - bool(remark):at + 1] = [] if new is None else [new]
-        return b"\n".join(lines), remark[1].decode("utf-8", "replace") if remark else None
+        lines[at - bool(row.serial):at + 1] = [] if new is None else [new]
+        return b"\n".join(lines), row.serial or None
 
     def remove_left(self) -> None:
         """Removes what processes left that were killed while they wrote: it has all secrets. The lock is held, so none
