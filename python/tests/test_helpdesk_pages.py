@@ -49,8 +49,8 @@ STAFF, USERS = ("sam", "kim"), ("ann", "bob", "cid")
 TYPED = """
 const [script, text, answer] = process.argv.slice(1), parts = {};
 function made() {
-    return {dataset: {}, append() {}, replaceChildren(...all) { this.all = all; },
-            addEventListener(_, call) { this.call = call; }};
+    return {dataset: {}, on: {}, append() {}, replaceChildren(...all) { this.all = all; },
+            addEventListener(kind, call) { this.on[kind] = call; }};
 }
 for (const id of ["q", "count", "results", "pager", "former", "next"]) parts[id] = made();
 globalThis.document = {createElement: made, getElementById: (id) => parts[id] ?? null};
@@ -61,10 +61,27 @@ globalThis.fetch = async (path) => {
 };
 require(script);
 parts.q.value = text;
-parts.q.call();
+parts.q.on.input();
 const link = (id) => [parts[id].href, parts[id].hidden];
 setTimeout(() => console.log(JSON.stringify({asked, count: parts.count.textContent, results: parts.results.all.length,
     pager: parts.pager.hidden, former: link("former"), next: link("next")})), 300);
+"""
+# Runs a script of pages over lists of users in a part of a page, and prints where the focus is after each key.
+WALKED = """
+const [script, part, ...keys] = process.argv.slice(1), called = {}, document = globalThis.document = {};
+const made = (name) => ({name, focus() { document.activeElement = this; },
+                         addEventListener(kind, call) { called[name + " " + kind] = call; }});
+const parts = {[part]: {...made(part), querySelectorAll: () => links}}, links = ["ann", "bob"].map(made);
+if (part === "results") parts.q = made("q");
+document.getElementById = (id) => parts[id] ?? null;
+require(script);
+(parts.q ?? links[0]).focus();
+for (const key of keys) {
+    let isTaken = false;
+    const event = {key: key.replace("^", ""), ctrlKey: key.startsWith("^"), preventDefault() { isTaken = true; }};
+    called[(document.activeElement === parts.q ? "q" : part) + " keydown"](event);
+    console.log(document.activeElement.name, isTaken);
+}
 """
 WAITING = 'href="(/waiting/[^"]*)"'
 real_time = time.time
@@ -609,6 +626,19 @@ class Pages(Case):
         one = {"asked": "/search.json?q=sam", "count": "1 found", "results": 1, "pager": True, "former": ["", True],
                "next": ["", True]}
         self.assertEqual(told, [shown, one])
+
+    @unittest.skipUnless(shutil.which("node"), "needs nodejs")
+    def test_arrow_keys(self) -> None:
+        """Arrow keys lead through a list, and from the field of the search into it and back. Other keys stay."""
+        down, up, taken = "ArrowDown", "ArrowUp", " true"
+        for part, keys, focus in (
+                ("results", [up, down, "^" + down, down, down, "Enter", up, up, up, "a"],
+                 ["q", "ann" + taken, "ann", "bob" + taken, "bob", "bob", "ann" + taken, "q" + taken, "q", "q"]),
+                ("lists", [up, down, down, up], ["ann", "bob" + taken, "bob", "ann" + taken])):
+            done = subprocess.run(["node", "-e", WALKED, str(web.FOLDER / "static" / "live.js"), part, *keys],
+                                  capture_output=True, text=True, check=True, timeout=60)
+            told = [line.replace(" false", "") for line in done.stdout.splitlines()]
+            self.assertEqual(told, focus, part)
 
     def test_wrong_addresses(self) -> None:
         """What has no page gets one of ours, with the way back, and tells nothing to a stranger."""

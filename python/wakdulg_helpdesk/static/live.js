@@ -50,6 +50,23 @@ function searchWhileTyping(field) {
     });
 }
 
+// Arrow keys lead through the users of lists, and on the page of the search from its field into them and back.
+function walkByArrows(lists) {
+    const field = document.getElementById("q");
+
+    function step(event) {
+        const by = {ArrowDown: 1, ArrowUp: -1}[event.key];
+        if (!by || event.altKey || event.ctrlKey || event.metaKey || event.shiftKey || event.isComposing) return;
+        const links = [...lists.querySelectorAll("a")], at = links.indexOf(document.activeElement);
+        const next = at === 0 && by < 0 ? field : links[at + by];
+        if (!next) return;
+        event.preventDefault();
+        next.focus();
+    }
+
+    for (const part of [lists, field]) if (part) part.addEventListener("keydown", step);
+}
+
 // The table of the cluster and its lists, whenever the server has new ones.
 function watchCluster(told) {
     const source = new EventSource(told.dataset.from), body = document.querySelector("#table tbody");
@@ -121,8 +138,8 @@ function countDown(part) {
     }, 1000);
 }
 
-for (const [id, begin] of [["q", searchWhileTyping], ["told", watchCluster], ["states", watchStates],
-    ["once", forget], ["wait", countDown]]) {
+for (const [id, begin] of [["q", searchWhileTyping], ["results", walkByArrows], ["told", watchCluster],
+    ["lists", walkByArrows], ["states", watchStates], ["once", forget], ["wait", countDown]]) {
     const found = document.getElementById(id);
     if (found) begin(found);
 }
