@@ -168,7 +168,7 @@ class Fingerprints(unittest.TestCase):
         swapped = {name: Row(at, b"%d" % at, 0, name) for at, name in enumerate((b"b", b"a", b"c", b"\xff"))}
         self.assertEqual(not_in_place(users, {1: here, 2: here}, ByPlaces()), [])
         self.assertEqual(not_in_place(users, {1: here, 2: swapped}, ByPlaces()),
-                         [("a", "not at member 2"), ("b", "not at member 2"), ("\ufffd", "only at member 2")])
+                         [(b"a", "not at member 2"), (b"b", "not at member 2"), (b"\xff", "only at member 2")])
 
 
 class Files(InFolder):

@@ -503,10 +503,15 @@ class Pages(Case):
             member.rows = {user.name: Row(0, user.token, int(user.name == b"bob"), user.name)
                            for user in site.desk.book.users.values() if (member.number, user.text) != (2, "cid")}
         site.members.all[2].shut = [Gate(b"ann", 3, now + 100), Gate(b"bob", 1, now - 1)]
+        for gone in (b"zoe", b"\xff"):
+            site.members.all[0].rows[gone] = Row(9, gone, 0, gone)
         page = sam.ask("/cluster").page
         self.assertEqual([listed(page, name) for name in ("locked", "lacking", "unused")],
-                         [["ann"], ["cid"], ["ann", "cid", "kim", "sam"]], "the lists")
+                         [["ann"], ["cid", "zoe", "\ufffd"], ["ann", "cid", "kim", "sam"]], "the lists")
         self.assertIn('<a href="%s">cid</a>' % place("cid"), page, "with links")
+        for path in place("zoe", "retired"), "/users/ff/retired":
+            self.assertIn('<a href="%s">' % path, page, "to the page of one without a row")
+            self.assertEqual(sam.ask(path).status, 200, "which is there")
         self.assertIn('<span id="moment">00:00:00 UTC</span>', page, "the moment of the table")
         self.assertEqual((sam.ask("/cluster/lists").status, site.members.all[0].read), (200, 1),
                          "they are kept for some seconds")

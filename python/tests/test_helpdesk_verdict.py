@@ -159,8 +159,8 @@ class Verdicts(unittest.TestCase):
         """Who is locked, whose row isn't in place, and who never logged in, of what three members told."""
         gates = {1: [Gate(b"bob", 2, NOW + 9), Gate(b"ann", 1, NOW)],
                  3: [Gate(b"bob", 1, NOW + 5), Gate(b"cid", 4, NOW + 60)]}
-        self.assertEqual(locked_now(gates, NOW), [("bob", "members 1, 3, opens in 5 s, 2 failures in a row"),
-                                                  ("cid", "member 3, opens in 60 s, 4 failures in a row")])
+        self.assertEqual(locked_now(gates, NOW), [(b"bob", "members 1, 3, opens in 5 s, 2 failures in a row"),
+                                                  (b"cid", "member 3, opens in 60 s, 4 failures in a row")])
         counters = {b"a": 0, b"b": 0, b"c": 7}
         users = {name: User(name, "HOTP/E/6", token=name * 2, begin=begin) for name, begin in counters.items()}
         users[b"t"] = User(b"t", "HOTP/T30/6", token=b"tt")
@@ -169,15 +169,15 @@ class Verdicts(unittest.TestCase):
         old, gone = {**here, b"b": Row(1, b"old", 0, b"b")}, {**here, b"z": Row(9, b"zz", 3, b"z")}
         lack = {name: row for name, row in here.items() if name != b"a"}
         rosters = {1: old, 2: gone, 3: {**lack, b"b": Row(1, b"old", 0, b"b")}}
-        lacking = [("a", "not at member 3"), ("b", "not at members 1, 3")]
+        lacking = [(b"a", "not at member 3"), (b"b", "not at members 1, 3")]
         for naming, where in (NAMES, "retired, and still at member 2"), (PLACES, "only at member 2"):
-            self.assertEqual(not_in_place(users, rosters, naming), [*lacking, ("z", where)])
+            self.assertEqual(not_in_place(users, rosters, naming), [*lacking, (b"z", where)])
         used = {**here, b"a": here[b"a"]._replace(floor=1)}
         kind = users[b"a"].kind()
         for rosters, names in (({1: here, 2: here, 3: here}, "abc"), ({1: here, 2: here}, "abc"), ({1: here}, ""),
                                ({1: here, 2: used, 3: here}, "bc"), ({1: here, 2: lack, 3: lack}, "bc"),
                                ({1: old, 2: here, 3: here}, "abc"), ({1: old, 2: old, 3: here}, "ac")):
-            self.assertEqual(never_used(users, rosters, 3), [(name, kind) for name in names])
+            self.assertEqual(never_used(users, rosters, 3), [(name.encode(), kind) for name in names])
 
     def test_how_long(self) -> None:
         """How long something lasts."""

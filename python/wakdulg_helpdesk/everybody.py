@@ -3,23 +3,30 @@ from __future__ import annotations
 
 import threading
 import time
-from typing import Any, Callable, List, Mapping, NamedTuple, Sequence, Tuple
+from typing import Any, Callable, Collection, List, Mapping, NamedTuple, Sequence, Tuple
 
 from wakdulg_helpdesk.book import Book, User
 from wakdulg_helpdesk.members import Gate, Member, Members
 from wakdulg_helpdesk.naming import Naming, Row
 
 MOST = 50
-# A list of a name and some words about it.
-Names = List[Tuple[str, str]]
+# Users, each with some words.
+Names = List[Tuple[bytes, str]]
+
+
+class Entry(NamedTuple):
+    """A user in a list: the name, some words, and the address of the page of the user."""
+    text: str
+    words: str
+    path: str
 
 
 class Lists(NamedTuple):
     """The lists of one moment. `silent` has the numbers of members that didn't answer. `when` is the second of the
     rosters."""
-    locked: Names
-    pending: Names
-    unused: Names
+    locked: list[Entry]
+    pending: list[Entry]
+    unused: list[Entry]
     silent: list[int]
     members: int
     when: int
@@ -30,9 +37,10 @@ def numbered(numbers: Sequence[int]) -> str:
     return "member%s %s" % ("s" * (len(numbers) > 1), ", ".join(map(str, numbers)))
 
 
-def text_of(name: bytes) -> str:
-    """Returns a name as lists show it."""
-    return name.decode("utf-8", "replace")
+def entries_of(found: Names, users: Collection[bytes]) -> list[Entry]:
+    """Returns the entries of a list. A user without a row has a page of another kind."""
+    return [Entry(name.decode("utf-8", "replace"), words, "/users/" + name.hex() + "/retired" * (name not in users))
+            for name, words in found]
 
 
 def locked_now(gates: Mapping[int, Sequence[Gate]], now: int) -> Names:
@@ -43,7 +51,7 @@ def locked_now(gates: Mapping[int, Sequence[Gate]], now: int) -> Names:
         for gate in told:
             if gate.until > now:
                 found.setdefault(gate.user, []).append((member, gate))
-    return [(text_of(user), "%s, opens in %d s, %d failures in a row" % (
+    return [(user, "%s, opens in %d s, %d failures in a row" % (
         numbered([member for member, _ in each]), min(gate.until for _, gate in each) - now,
         max(gate.failures for _, gate in each))) for user, each in sorted(found.items())]
 
@@ -59,7 +67,7 @@ def not_in_place(users: Mapping[bytes, User], rosters: Mapping[int, Mapping[byte
             found.setdefault(name, ([], []))[1].append(member)
     words = {name: "not at " + numbered(lack) if lack else naming.surplus + numbered(more)
              for name, (lack, more) in found.items()}
-    return [(text_of(name), words[name]) for name in sorted(words)]
+    return sorted(words.items())
 
 
 def never_used(users: Mapping[bytes, User], rosters: Mapping[int, Mapping[bytes, Row]], members: int) -> Names:
@@ -69,7 +77,7 @@ def never_used(users: Mapping[bytes, User], rosters: Mapping[int, Mapping[bytes,
     for name, user in sorted(users.items()):
         rows = [rows[name] for rows in rosters.values() if name in rows and rows[name].token == user.token]
         if user.period() is None and 2 * len(rows) > members and all(row.floor <= user.begin for row in rows):
-            found.append((text_of(name), user.kind()))
+            found.append((name, user.kind()))
     return found
 
 
@@ -99,8 +107,9 @@ class Everybody:
         users, silent = self.book.users, sorted({each.number for each in self.members.all} - set(rosters))
         age = max((time.monotonic() - self.rosters[number][1] for number in rosters), default=0)
         now = time.time()
-        return Lists(locked_now(gates, int(now)), not_in_place(users, rosters, self.book.naming),
-                     never_used(users, rosters, count), silent, count, int(now - age))
+        locked, pending = locked_now(gates, int(now)), not_in_place(users, rosters, self.book.naming)
+        return Lists(entries_of(locked, users), entries_of(pending, users),
+                     entries_of(never_used(users, rosters, count), users), silent, count, int(now - age))
 
     def told(self, call: Callable[[Member], Any]) -> dict[int, Any]:
         """Returns what members told, by their numbers. Silent ones aren't in it."""
