@@ -96,10 +96,11 @@ floors_of node = Floors node (counts.Given 9)
 abbrev pub floors_by_file : Action
 floors_by_file = Floors 1 (counts.Named file)
 
--- the store of a node, and that of a member of the cluster file
+-- the store of a node
 abbrev pub at_node : ℕ → Owner
 at_node node = owners.Node node
 
+-- the store of a member of the cluster file
 abbrev pub at_member : ℕ → Owner
 at_member node = owners.Member node file
 
@@ -107,17 +108,19 @@ at_member node = owners.Member node file
 abbrev pub level_by : Vec (Bor (List ℕ)) → Owner → Action
 level_by floors owner = Level owner floors
 
--- an upgrade, without the number of members or with it
+-- an upgrade
 abbrev pub migrate_at : Owner → Action
 migrate_at owner = Migrate owner None
 
+-- an upgrade in a cluster that had `members` members
 abbrev pub migrate_among : ℕ → Owner → Action
 migrate_among members owner = Migrate owner (Some members)
 
--- rows by names with the cluster file: printed, or dropped
+-- the rows by names, printed with the cluster file
 abbrev pub roster_at : ℕ → Action
 roster_at node = Roster node file false
 
+-- rows by names, dropped with the cluster file
 abbrev pub drop_at : ℕ → Action
 drop_at node = Roster node file true
 

@@ -289,7 +289,8 @@ pub fn named_words_are_worked()
         × (GivesFormerMembers found (at_node 1) (Some 3) → ⊥) × (GivesFormerMembers found owners.Any (Some 3) → ⊥) }
     ensures members_were_not { (found : Found) → first_value found (codes "members-were") ≡ None
         → GivesFormerMembers found (at_member 1) None × GivesFormerMembers found (at_node 1) None
-        × GivesFormerMembers found owners.Any None }
+        × GivesFormerMembers found owners.Any None × (GivesFormerMembers found (at_node 1) (Some 3) → ⊥)
+        × (GivesFormerMembers found owners.Any (Some 3) → ⊥) }
     ensures members_were_some { (found : Found) → first_value found (codes "members-were") ≡ Some (codes "3")
         → (GivesFormerMembers found (at_member 1) None → ⊥) × (GivesFormerMembers found (at_node 1) None → ⊥)
         × (GivesFormerMembers found owners.Any None → ⊥) }
@@ -302,6 +303,8 @@ pub fn named_words_are_worked()
         → first_value found (codes "cluster") ≡ Some (codes "c") → GivesMember found (codes "members-were") 3
         → AsksForAction (codes "migrate") found (migrate_among 3 (at_member 1))
         × (AsksForAction (codes "migrate") found (migrate_at (at_node 1)) → ⊥) }
+    ensures migrate_among_others { (found : Found) → GivesMember found (codes "members-were") 3
+        → AsksForAction (codes "migrate") found (migrate_among 2 (at_member 1)) → ⊥ }
     ensures migrate_of_any { (found : Found) → AsksForAction (codes "migrate") found (migrate_at owners.Any) → ⊥ }
 
     ensures level { (found : Found) (floors : Vec (Bor (List ℕ))) → values_given found (codes "floors")
