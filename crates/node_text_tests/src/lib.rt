@@ -1,12 +1,19 @@
-//! The tests of what is written for people, by the public calls alone: `log_writer`, `node_log`, `oathd_asking` and
-//! `operator_text`. They are a crate of their own, since a crate is proved again with its tests.
+//! The tests of what is written for people, by the public calls alone: `log_writer`, `node_log`, `oathd_asking`,
+//! `oathd_lines`, `oathd_sim` and `operator_text`. They are a crate of their own, since a crate is proved again with its
+//! tests.
 #![tactic(auto)]
 
+#[cfg(test)]
+mod failing;
 #[cfg(test)]
 mod log_writer_tests;
 #[cfg(test)]
 mod node_log_tests;
 #[cfg(test)]
 mod oathd_asking_tests;
+#[cfg(test)]
+mod oathd_lines_tests;
+#[cfg(test)]
+mod oathd_sim_tests;
 #[cfg(test)]
 mod operator_text_tests;

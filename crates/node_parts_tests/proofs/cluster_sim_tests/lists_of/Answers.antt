@@ -1,5 +1,5 @@
-use Rattle.cluster_sim_tests.proofs.CopyLemmas.{copy_more, count_is, no_copies}
-use Rattle.cluster_sim_tests.proofs.tests.lists_of.Goals as goal
+use Rattle.node_parts_tests.proofs.CopyLemmas.{copy_more, count_is, no_copies}
+use Rattle.node_parts_tests.proofs.cluster_sim_tests.lists_of.Goals as goal
 
 pub loop-init : goal.loop-init
 loop-init c = no_copies c.args.floors.now c.new-lists.result.items c.new-lists.ensures.items

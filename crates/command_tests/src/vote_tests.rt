@@ -1,6 +1,6 @@
 //! A node of three over a database in memory that stops during a vote.
 
-use crate::tests::{SILVER, made};
+use crate::database_tests::{SILVER, made};
 use arrayvec::ArrayVec;
 use floor_sql::SqlStore;
 use floor_store::{Proposal, Span};

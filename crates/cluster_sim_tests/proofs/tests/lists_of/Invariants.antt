@@ -1,5 +1,0 @@
-use Rattle.cluster_sim_tests.proofs.CopyLemmas.{AreCopies}
-use Rattle.cluster_sim_tests.proofs.tests.lists_of.Given as goal
-
-abbrev pub invariant-loop : goal.invariant-loop
-invariant-loop l = AreCopies l.floors l.counter l.lists.items

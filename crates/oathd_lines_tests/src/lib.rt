@@ -1,8 +1,0 @@
-//! The tests of `oathd_lines`, by its public calls alone. They are a crate of their own, since a crate is proved again
-//! with its tests.
-#![tactic(auto)]
-
-#[cfg(test)]
-mod failing;
-#[cfg(test)]
-mod tests;
