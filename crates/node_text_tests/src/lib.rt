@@ -1,5 +1,5 @@
-//! The tests of what is written for people, by the public calls alone: `log_writer`, `node_log`, `oathd_asking` and
-//! `operator_text`. They are a crate of their own, since a crate is proved again with its tests.
+//! The tests of what is written for people, by the public calls alone: `log_writer`, `node_log`, `oathd_asking`,
+//! `operator_text` and `status_text`. They are a crate of their own, since a crate is proved again with its tests.
 #![tactic(auto)]
 
 #[cfg(test)]
@@ -10,3 +10,5 @@ mod node_log_tests;
 mod oathd_asking_tests;
 #[cfg(test)]
 mod operator_text_tests;
+#[cfg(test)]
+mod status_text_tests;
