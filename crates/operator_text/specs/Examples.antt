@@ -1,5 +1,5 @@
 -- Worked cases: users, lines and pages.
-use Rattle.std.specs.Prelude.{ℕ, false, true, List, [], ◌∷◌, ◌++◌, replicate, Option, Some, None, codes}
+use Rattle.std.specs.Prelude.{ℕ, false, true, List, [], ◌∷◌, ◌++◌, replicate, Option, Some, codes}
 use Rattle.operator_text.specs.Page.{PageRecord, PartRecord}
 
 -- `count` letters

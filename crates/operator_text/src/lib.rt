@@ -22,5 +22,5 @@ pub use reply::{Reply, read_reply, write_reply};
 pub use request::{MAX_REQUEST_LEN, Report, Request, read_request, write_request};
 pub use worked::{
     lines_can_be_broken, pages_are_worked, pushes_are_worked, readings_are_worked,
-    reports_can_be_broken, requests_are_worked, wishes_can_be_broken,
+    replies_are_worked, reports_can_be_broken, requests_are_worked, wishes_can_be_broken,
 };
