@@ -7,4 +7,6 @@ mod node_reports_tests;
 #[cfg(test)]
 mod oathd_roster_tests;
 #[cfg(test)]
+mod responder_tests;
+#[cfg(test)]
 mod tests;
