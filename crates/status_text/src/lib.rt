@@ -1,6 +1,6 @@
-//! The lines of the report STATUS: a [`Status`] has the values of a node, and a [`StatusLine`] is a line of their text.
+//! The report STATUS: a [`Status`] has the values of a node, and a [`StatusLine`] is a line of their text.
 //!
-//! The lines are lines of a report, so that the laws of pages hold for them (the law [`status_is_a_report`]). No function
+//! They are lines of a report, so that the laws of pages hold for them (the law [`status_is_a_report`]). No function
 //! allocates.
 #![tactic(auto)]
 
