@@ -4,11 +4,12 @@ from __future__ import annotations
 import re
 import unittest
 from pathlib import Path
+from unittest import mock
 
 import wakdulg
 from tests.cases import InFolder
 from tests.fake_node import FakeNode
-from wakdulg.operator import Operator
+from wakdulg.operator import BUSY_TIMES, Operator
 from wakdulg_helpdesk.book import User
 from wakdulg_helpdesk.cluster_file import ClusterFile
 from wakdulg_helpdesk.everybody import not_in_place
@@ -22,7 +23,10 @@ USERS = [b"ann", b"NO", b"end", b"next", b"-", b"row", b"floors", "\u00e4b".enco
 
 
 class FakeMember(FakeNode):
-    """A node that answers operators by pages of some lines. `reports` has the lines of each report."""
+    """A node that answers operators by pages of some lines. `reports` has the lines of each report. The next `busy`
+    requests are refused as busy."""
+
+    busy = 0
 
     def __init__(self, users: list[bytes], number: int = 1, print: bytes = b"aa", most: int = 3) -> None:
         self.most, self.reports = most, {"GATES": [b"gate NO 2 99"]}
@@ -38,7 +42,9 @@ class FakeMember(FakeNode):
     def answer(self, sender: wakdulg.Node, begin: bytes) -> None:
         """Sends a page of a report, or the answer to an unlock."""
         word, lines = self.heard[-1].split()[0], [b"unlocked"]
-        if word != "UNLOCK":
+        if self.busy:
+            self.busy, lines = self.busy - 1, [b"NO BUSY"]
+        elif word != "UNLOCK":
             most, at = 99 if word == "STATUS" else self.most, int(begin)
             whole = self.reports.get(word)
             lines = [b"NO REPORT"] if whole is None else whole[at:at + most]
@@ -85,6 +91,18 @@ class OneMember(Case):
                 self.assertEqual(row, Row(at, b"%d" % at, 10 * at, user))
         node.seat(USERS[1:], b"cc", 2)
         self.assertIsNone(member.row_of_user(b"ann"), "a row that vanished")
+
+    @mock.patch("wakdulg_helpdesk.members.BUSY_PAUSE", 0.1)
+    def test_a_busy_member_is_asked_again(self) -> None:
+        node = self.fake()
+        member = self.member(node)
+        node.busy = 2
+        self.assertEqual(member.gate(b"NO"), (2, 99))
+        self.assertEqual(node.heard, ["GATES 0"] * 3)
+        node.busy = 99
+        with self.assertRaisesRegex(Refusal, "^NO BUSY$"):
+            member.gate(b"NO")
+        self.assertEqual(len(node.heard), 3 + BUSY_TIMES)
 
     def test_another_kind_of_cluster(self) -> None:
         """The rows of a cluster with names, and a report that isn't there, are refusals."""

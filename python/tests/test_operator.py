@@ -2,9 +2,11 @@
 from __future__ import annotations
 
 import tempfile
+import time
 import unittest
 from pathlib import Path
 from typing import Sequence
+from unittest import mock
 
 import wakdulg
 from tests.fake_node import FakeNode, Reply
@@ -86,6 +88,29 @@ class Requests(unittest.TestCase):
                 self.ask(self.node([text]), "STATUS")
         with self.assertRaisesRegex(NoReport, "the node refuses: NO USER"):
             self.ask(self.node(["NO USER"]), "UNLOCK bob")
+
+    @mock.patch("wakdulg.operator.BUSY_PAUSE", 0.1)
+    def test_a_busy_node_is_asked_for_the_page_again(self) -> None:
+        node = self.node(["NO BUSY"], ["a\nnext 1"], ["NO BUSY"], ["NO BUSY"], ["b\nend"])
+        self.assertEqual(self.ask(node, "ROSTER"), ["a", "b"])
+        self.assertEqual(node.heard, ["ROSTER 0"] * 2 + ["ROSTER 1"] * 3)
+        self.assertEqual(len({*node.datagrams}), 5)
+
+    @mock.patch("wakdulg.operator.BUSY_PAUSE", 0.1)
+    def test_a_node_that_stays_busy_refuses(self) -> None:
+        node = self.node(["NO BUSY"])
+        with self.assertRaisesRegex(NoReport, "the node refuses: NO BUSY"):
+            self.ask(node, "ROSTER")
+        node.stop()
+        self.assertEqual(node.heard, ["ROSTER 0"] * operator.BUSY_TIMES)
+
+    def test_a_busy_node_is_not_awaited_behind_the_deadline(self) -> None:
+        node = self.node(["NO BUSY"])
+        begin = time.monotonic()
+        with self.assertRaisesRegex(NoReport, "NO BUSY"):
+            operator.ask(KEY, node.address, 2, "STATUS", deadline=begin + 0.9)
+        node.stop()
+        self.assertEqual(node.heard, ["STATUS 0"])
 
     def test_files_of_keys(self) -> None:
         with tempfile.TemporaryDirectory() as folder:

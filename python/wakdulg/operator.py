@@ -5,7 +5,8 @@
 
 `ask` returns the lines of a report, or raises `Silent` or `NoReport`. A request is sealed again each time that it is
 sent. Only a report that is sealed for that very datagram counts. docs/reference/formats.md ("A request and its report")
-has the requests.
+has the requests. A node refuses a reader as busy if the requests of readers used up their time. Then the same page is
+asked for again a second later, ten times in all.
 """
 from __future__ import annotations
 
@@ -19,6 +20,8 @@ from wakdulg.nodes import Node
 
 # How often a request is sent, and how many seconds apart.
 TIMES, PAUSE = 3, 1.0
+# What a node reports that is busy with readers, how often it is asked for a page, and how many seconds apart.
+BUSY, BUSY_TIMES, BUSY_PAUSE = "NO BUSY", 10, 1.0
 MAX_DATAGRAM = 2048
 # The requests that are answered by pages.
 PAGED = ("STATUS", "GATES", "FLOORS", "PASSES", "ROSTER")
@@ -94,7 +97,23 @@ def ask_page(
     pause: float = PAUSE,
     deadline: float = float("inf"),
 ) -> list[str]:
-    """Returns the lines of the report on one request.
+    """Returns the lines of the report on one request. A busy node is asked again, if there is time until `deadline`.
+
+    # Errors
+    Raises `Silent` if there is no report until `deadline`, in seconds of the monotonic clock.
+    """
+    for _ in range(BUSY_TIMES - 1):
+        lines = ask_once(key, address, node, text, times, pause, deadline)
+        if lines != [BUSY] or time.monotonic() + BUSY_PAUSE >= deadline:
+            return lines
+        time.sleep(BUSY_PAUSE)
+    return ask_once(key, address, node, text, times, pause, deadline)
+
+
+def ask_once(
+    key: Operator, address: Node, node: int, text: str, times: int, pause: float, deadline: float
+) -> list[str]:
+    """Returns the lines of the report on one request, also if the node is busy.
 
     # Errors
     Raises `Silent` if there is no report until `deadline`, in seconds of the monotonic clock.

@@ -11,7 +11,7 @@ from collections import Counter
 from typing import Any, Callable, Dict, Iterator, Mapping, NamedTuple, Sequence, Tuple, TypeVar
 
 import wakdulg
-from wakdulg.operator import Operator, Request, Silent, hear, read_operator
+from wakdulg.operator import BUSY, BUSY_PAUSE, BUSY_TIMES, Operator, Request, Silent, hear, read_operator
 from wakdulg_helpdesk.book import User
 from wakdulg_helpdesk.cluster_file import ClusterFile
 from wakdulg_helpdesk.naming import Naming, Row
@@ -56,6 +56,17 @@ class Member:
         self.places: dict[bytes, int] = {}
 
     def request(self, text: bytes) -> list[bytes]:
+        """Returns the lines of a report. A member that is busy with readers is asked again, a second later."""
+        for _ in range(BUSY_TIMES - 1):
+            try:
+                return self.request_once(text)
+            except Refusal as refusal:
+                if str(refusal) != BUSY:
+                    raise
+            time.sleep(BUSY_PAUSE)
+        return self.request_once(text)
+
+    def request_once(self, text: bytes) -> list[bytes]:
         """Returns the lines of a report. A request is sent at most three times."""
         asked = Request(text, self.key, self.number)
         with socket.socket(socket.AF_INET, socket.SOCK_DGRAM) as client:

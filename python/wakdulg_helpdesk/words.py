@@ -31,6 +31,7 @@ REQUESTS = {
     "NO RIGHT": "the key of this site may only read: " + RUNS,
     "NO REPORT": "its database or its memory failed: " + RUNS,
     "NO REQUEST": "it runs another version of oathd: " + RUNS,
+    "NO BUSY": "keys that may only read asked it too much. Do it again in a minute. If that stays, " + RUNS,
 }
 # The notes of `oathd status` about a member.
 NOTES = {

@@ -12,6 +12,8 @@ mod node_reports_tests;
 #[cfg(test)]
 mod oathd_roster_tests;
 #[cfg(test)]
+mod responder_tests;
+#[cfg(test)]
 mod seats_tests;
 #[cfg(test)]
 mod serving_tests;

@@ -1,3 +1,4 @@
+mod AllowanceLemmas
 pub mod PassLemmas
 pub mod NodeStatusLemmas
 pub mod TextLemmas

@@ -1,3 +1,4 @@
+pub mod Allowance
 pub mod NodeStatus
 pub mod Reports
 pub mod Responder

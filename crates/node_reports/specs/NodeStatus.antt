@@ -4,8 +4,8 @@ use Rattle.std.specs.Option.{option_map}
 use Rattle.floor_store.specs.Content.{Content}
 use Rattle.floor_store.specs.Records.{RowRecord}
 use Rattle.gatekeeping.specs.declared.counters.Counters.{Counters}
-use Rattle.operator_text.specs.declared.status.Rows.{Rows}
-use Rattle.operator_text.specs.declared.status.Status.{Status}
+use Rattle.status_text.specs.declared.status.Rows.{Rows}
+use Rattle.status_text.specs.declared.status.Status.{Status}
 use Rattle.node_reports.specs.declared.node_status.NodeInfo.{NodeInfo}
 
 -- whether the token of a row is closed at a moment

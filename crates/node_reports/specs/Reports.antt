@@ -12,10 +12,10 @@ use Rattle.named_floors.specs.Told.{TellingRecord, told_named}
 use Rattle.oath_node.specs.Hosted.{Hosted}
 use Rattle.oathd_database.specs.Floors.{told_floors}
 use Rattle.oathd_database.specs.Gates.{gates_text}
-use Rattle.operator_text.specs.Status.{status_text}
+use Rattle.status_text.specs.Status.{status_text}
 use Rattle.operator_text.specs.declared.request.Report.{Report}
 use Rattle.operator_text.specs.declared.request.Report.TheVariants.{Status, Gates, Floors, Passes, Roster}
-use Rattle.operator_text.specs.declared.status.Status.{Status as StatusValue}
+use Rattle.status_text.specs.declared.status.Status.{Status as StatusValue}
 use Rattle.seated_store.specs.Seated.{SeatedRecord}
 use Rattle.seated_store.specs.Seats.{seated_content}
 use Rattle.oathd_roster.specs.Roster.{roster_text}

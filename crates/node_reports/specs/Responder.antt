@@ -3,13 +3,15 @@ use Rattle.std.specs.Prelude.{◌≡◌, ◌⊎◌, ℕ, ◌==◌, ◌&&◌, Boo
 use Rattle.operator_text.specs.Pages.{page_from}
 use Rattle.operator_text.specs.Reply.{reply_text}
 use Rattle.operator_text.specs.Request.{Wish as Request, Lines, OpenGate as Unlock, Ending, changes, request_at}
-use Rattle.operator_text.specs.declared.reply.Reply.TheVariants.{NoReport, NoRequest, NoRight, NoUser}
+use Rattle.operator_text.specs.declared.reply.Reply.TheVariants.{Busy, NoReport, NoRequest, NoRight, NoUser}
 use Rattle.operator_text.specs.declared.request.Report.{Report}
 use Rattle.operator_text.specs.declared.request.Report.TheVariants as report
 use Rattle.sealed_wire.specs.declared.right.Right.{Right}
 use Rattle.sealed_wire.specs.declared.right.Right.TheVariants.{Operator, Reader}
 use Rattle.token_file.specs.Credential.{Credential, place_of}
+use Rattle.node_reports.specs.Allowance.{is_empty, paid, refilled}
 use Rattle.node_reports.specs.Text.{lines_of}
+use Rattle.node_reports.specs.declared.allowance.Allowance.{Allowance}
 use Rattle.node_reports.specs.declared.responder.Kept.{Kept}
 use Rattle.node_reports.specs.declared.responder.Decision.{Decision}
 use Rattle.node_reports.specs.declared.responder.Decision.TheVariants.{Refused, Page, OpenGate, Drain}
@@ -52,6 +54,19 @@ decision_by book right (Some request) =
 -- what the text of a request asks for, of a key with a right
 abbrev pub decision_in : List Credential → Right → List ℕ → Decision
 decision_in book right text = decision_by book right (request_at text)
+
+-- The same at a moment of the clock, under the allowance of readers. A reader's request is refused, whatever it asks
+-- for, if nothing is left.
+abbrev pub decision_at : Option ℕ → Allowance → List Credential → Right → List ℕ → Decision
+decision_at moment allowance book right text =
+    if not (is_operator right) && is_empty (refilled moment allowance) then Refused Busy
+    else decision_in book right text
+
+-- the allowance after a request, of a key with a right, that began and ended at moments of the clock: an operator's
+-- takes nothing of it
+abbrev pub charged : Right → Option ℕ → Option ℕ → Allowance → Allowance
+charged Operator began ended allowance = allowance
+charged Reader began ended allowance = paid began ended allowance
 
 -- what a request asks for changes nothing: the node neither opens a gate nor ends
 abbrev pub ChangesNothing : Decision → Type 0

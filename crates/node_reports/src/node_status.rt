@@ -2,8 +2,8 @@
 
 ghost use Rattle.std.specs.Prelude.{◌≡◌, ◌<◌, ◌≤◌, length, map, slice_get, IfOk, IfSome};
 ghost use Rattle.std.specs.List.{concat};
-ghost use Rattle.operator_text.specs.Status.{status_text};
-ghost use Rattle.operator_text.specs.StatusLine.{line_text};
+ghost use Rattle.status_text.specs.Status.{status_text};
+ghost use Rattle.status_text.specs.StatusLine.{line_text};
 ghost use Rattle.node_reports.specs.NodeStatus as spec;
 ghost use Rattle.node_reports.specs.NodeStatus.{TellsCounters, TellsInfo, TellsStore, is_closed, rows_within};
 
@@ -11,7 +11,7 @@ use field_text::{cut_at, read_number};
 use floor_store::{FloorStore, MAX_ROWS, StoreFault};
 use gatekeeping::Counters;
 use oath_node::Node;
-use operator_text::{Rows, Status, StatusLine, Version};
+use status_text::{Rows, Status, StatusLine, Version};
 use std::alloc::Global;
 use vote_core::Place;
 

@@ -1,13 +1,15 @@
 //! The responder of a running node, which answers operators.
 
-ghost use Rattle.std.specs.Prelude.{◌≡◌, ◌<◌, ◌≤◌, ◌⊎◌, ℕ, IfOk, IfSome, IsOk, IsSome, OnOk, Some, length};
+ghost use Rattle.std.specs.Prelude.{◌≡◌, ◌<◌, ◌≤◌, ◌⊎◌, ℕ, IfOk, IfSome, IsOk, IsSome, OnOk, Option, Some, length};
 ghost use Rattle.datagram_port.specs.Port.{Grows};
 ghost use Rattle.oath_node.specs.Reading.{ReadsNode};
 ghost use Rattle.oath_node.specs.Unlocking.{UnlocksNode};
 ghost use Rattle.operator_text.specs.Reply.{reply_text};
-ghost use Rattle.node_reports.specs.Responder.{is_operator, is_same, page_for, decision_in};
+ghost use Rattle.node_reports.specs.Allowance.{full};
+ghost use Rattle.node_reports.specs.Responder.{charged, decision_at, decision_in, is_operator, is_same, page_for};
 ghost use Rattle.node_reports.specs.Reports.{IsReportText};
 
+use crate::allowance::{Allowance, micros_of};
 use crate::node_status::{NodeInfo, status_text};
 use crate::source::ReportSource;
 use crate::text::page_of_text;
@@ -86,6 +88,8 @@ pub struct Responder<'d, N: TimeSource, T: Drop, U> {
     ordered: Option<(SetAside, Order)>,
     /// The moment at which the node began to end, in milliseconds of a monotonic clock.
     draining: Option<u64>,
+    /// The time that requests of readers may take.
+    allowance: Allowance,
 }
 
 /// Returns whether a key may send requests that change something.
@@ -153,7 +157,8 @@ impl<'d, N: TimeSource, T: Drop, U> Responder<'d, N, T, U> {
         source: T,
         until: U,
     ) -> Self
-        ensures { result.until ≡ until }
+        ensures until { result.until ≡ until }
+        ensures allowance { result.allowance ≡ full }
     {
         Responder {
             alloc,
@@ -165,6 +170,7 @@ impl<'d, N: TimeSource, T: Drop, U> Responder<'d, N, T, U> {
             kept: None,
             ordered: None,
             draining: None,
+            allowance: Allowance::full(),
         }
     }
 
@@ -238,6 +244,7 @@ impl<'d, N: TimeSource, T: Drop, U> Responder<'d, N, T, U> {
         ensures same { (self.new.info ≡ self.old.info) × (self.new.source ≡ self.old.source)
             × (self.new.until ≡ self.old.until) }
         ensures orders { (self.new.ordered ≡ self.old.ordered) × (self.new.draining ≡ self.old.draining) }
+        ensures allowance { self.new.allowance ≡ self.old.allowance }
         ensures events { P.events port.new ≡ P.events port.old }
         ensures stays { P.setup port.new ≡ P.setup port.old }
     {
@@ -265,6 +272,7 @@ impl<'d, N: TimeSource, T: Drop, U> Responder<'d, N, T, U> {
         ensures same { (self.new.info ≡ self.old.info) × (self.new.source ≡ self.old.source)
             × (self.new.until ≡ self.old.until) }
         ensures drains { self.new.draining ≡ self.old.draining }
+        ensures allowance { self.new.allowance ≡ self.old.allowance }
         ensures orders { (self.new.ordered ≡ self.old.ordered) ⊎ (self.new.ordered ≡ Some (asked, Order.ListPasses)) }
         ensures events { P.events port.new ≡ P.events port.old }
         ensures stays { P.setup port.new ≡ P.setup port.old }
@@ -289,7 +297,7 @@ impl<'d, N: TimeSource, T: Drop, U> Responder<'d, N, T, U> {
         }
     }
 
-    /// Returns what a request asks for.
+    /// Returns what a request asks for, whatever time it takes.
     fn decision_on(&self, asked: &SetAside) -> Decision
         ensures { result ≡ decision_in self.now.book.now asked.now.right asked.now.text }
     {
@@ -309,35 +317,67 @@ impl<'d, N: TimeSource, T: Drop, U> Responder<'d, N, T, U> {
         }
     }
 
-    /// Takes a request.
+    /// Returns what a request asks for at a moment, which is None if the clock fails.
+    fn decision_at(&self, asked: &SetAside, moment: Option<u64>) -> Decision
+        ensures { result
+            ≡ decision_at moment self.now.allowance self.now.book.now asked.now.right asked.now.text }
+    {
+        if !is_operator(asked.right()) && self.allowance.refilled(moment).is_empty() {
+            return Decision::Refused(Reply::Busy);
+        }
+        self.decision_on(asked)
+    }
+
+    /// Takes the time of a request, which began at a moment and ends now, from the allowance if the key is a reader's.
+    fn charge(&mut self, right: Right, began: Option<u64>)
+        ensures { (ended : Option ℕ)
+            × (self.new ≡ record self.old { allowance = charged right began ended self.old.allowance }) }
+    {
+        let ended = micros_of(self.outside);
+        if !is_operator(right) {
+            self.allowance = self.allowance.paid(began, ended);
+        }
+    }
+
+    /// Takes a request at a moment, which is None if the clock fails.
     fn take<S: FloorStore, P: Gatekeeper>(
         &mut self,
         node: &Node<'_, S>,
         port: &mut P,
         asked: SetAside,
+        began: Option<u64>,
     )
     where
         T: ReportSource<S>,
         ensures same { (self.new.info ≡ self.old.info) × (self.new.source ≡ self.old.source)
             × (self.new.until ≡ self.old.until) }
         ensures refused { (reply : Reply)
-            → decision_in self.old.book.now asked.right asked.text ≡ Decision.Refused reply
+            → decision_at began self.old.allowance self.old.book.now asked.right asked.text ≡ Decision.Refused reply
             → (self.new ≡ self.old) × Grows (P.below port.old) (P.below port.new)
             (P.reported port.old asked (reply_text reply)) }
         ensures page { (report : Report) → (from : ℕ)
-            → decision_in self.old.book.now asked.right asked.text ≡ Decision.Page report from
+            → decision_at began self.old.allowance self.old.book.now asked.right asked.text ≡ Decision.Page report from
             → (self.new.draining ≡ self.old.draining)
-            × ((self.new.ordered ≡ self.old.ordered) ⊎ (self.new.ordered ≡ Some (asked, Order.ListPasses))) }
-        ensures gate { (token : ℕ) → decision_in self.old.book.now asked.right asked.text ≡ Decision.OpenGate token
-            → (self.new.ordered ≡ Some (asked, Order.OpenGate token)) × (self.new.draining ≡ self.old.draining) }
-        ensures drain { decision_in self.old.book.now asked.right asked.text ≡ Decision.Drain
-            → (self.new.ordered ≡ self.old.ordered) × IsSome self.new.draining }
+            × ((self.new.ordered ≡ self.old.ordered) ⊎ (self.new.ordered ≡ Some (asked, Order.ListPasses)))
+            × ((ended : Option ℕ)
+            × (self.new.allowance ≡ charged asked.right began ended self.old.allowance)) }
+        ensures gate { (token : ℕ)
+            → decision_at began self.old.allowance self.old.book.now asked.right asked.text ≡ Decision.OpenGate token
+            → (self.new.ordered ≡ Some (asked, Order.OpenGate token)) × (self.new.draining ≡ self.old.draining)
+            × (self.new.allowance ≡ self.old.allowance) }
+        ensures drain { decision_at began self.old.allowance self.old.book.now asked.right asked.text ≡ Decision.Drain
+            → (self.new.ordered ≡ self.old.ordered) × IsSome self.new.draining
+            × (self.new.allowance ≡ self.old.allowance) }
         ensures events { P.events port.new ≡ P.events port.old }
         ensures stays { P.setup port.new ≡ P.setup port.old }
     {
-        match self.decision_on(&asked) {
+        let right = asked.right();
+        match self.decision_at(&asked, began) {
             Decision::Refused(reply) => send(port, &asked, reply),
-            Decision::Page { report, from } => self.take_page(node, port, asked, report, from),
+            Decision::Page { report, from } => {
+                self.take_page(node, port, asked, report, from);
+                self.charge(right, began);
+            }
             Decision::OpenGate(token) => self.ordered = Some((asked, Order::OpenGate(token))),
             Decision::Drain => {
                 if self.draining.is_none() {
@@ -363,6 +403,7 @@ impl<'d, N: TimeSource, T: Drop, U> Responder<'d, N, T, U> {
         ensures same { (self.new.info ≡ self.old.info) × (self.new.source ≡ self.old.source)
             × (self.new.until ≡ self.old.until) }
         ensures orders { (self.new.ordered ≡ self.old.ordered) × (self.new.draining ≡ self.old.draining) }
+        ensures allowance { self.new.allowance ≡ self.old.allowance }
     {
         let passes = self.source.passes(self.alloc, node)?;
         let mut text = Vec::new(self.alloc);
@@ -374,6 +415,28 @@ impl<'d, N: TimeSource, T: Drop, U> Responder<'d, N, T, U> {
             }),
             Err(_) => None,
         };
+        Ok(())
+    }
+
+    /// Begins the report of all passes, and sends its first page. Both take time of the allowance.
+    fn report_passes<S: FloorStore, P: Gatekeeper>(
+        &mut self,
+        node: &mut Node<'_, S>,
+        port: &mut P,
+        asked: &SetAside,
+    ) -> Result<(), NodeFault>
+    where
+        T: ReportSource<S>,
+        ensures reads { ReadsNode S.held node.old node.new result }
+        ensures charged { OnOk result ((began : Option ℕ) × (ended : Option ℕ)
+            × (self.new.allowance ≡ charged asked.now.right began ended self.old.allowance)) }
+        ensures events { P.events port.new ≡ P.events port.old }
+        ensures stays { P.setup port.new ≡ P.setup port.old }
+    {
+        let began = micros_of(self.outside);
+        self.list_passes(node, asked.number())?;
+        self.send_page(port, asked, Report::Passes, 0);
+        self.charge(asked.right(), began);
         Ok(())
     }
 }
@@ -389,7 +452,8 @@ impl<S: FloorStore, N: TimeSource, T: ReportSource<S> + Drop, U: Stop> Attend<S>
 
     fn ends<P: Gatekeeper>(&mut self, node: &Node<'_, S>, port: &mut P, left: u64) -> bool {
         if let Some(asked) = port.take_request() {
-            self.take(node, port, asked);
+            let began = micros_of(self.outside);
+            self.take(node, port, asked, began);
         }
         let is_drained = self.ordered.is_none() && self.is_drained(node.is_waiting());
         // No turn is left for a node that is drained.
@@ -408,10 +472,7 @@ impl<S: FloorStore, N: TimeSource, T: ReportSource<S> + Drop, U: Stop> Attend<S>
         };
         match order {
             Order::OpenGate(token) => open_gate(node, port, &asked, token)?,
-            Order::ListPasses => {
-                self.list_passes(node, asked.number())?;
-                self.send_page(port, &asked, Report::Passes, 0);
-            }
+            Order::ListPasses => self.report_passes(node, port, &asked)?,
         }
         Ok(true)
     }

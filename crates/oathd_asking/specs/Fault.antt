@@ -5,7 +5,7 @@ use Rattle.operator_text.specs.Reply.{reply_at}
 use Rattle.operator_text.specs.declared.reply.Reply.{Reply}
 use Rattle.operator_text.specs.declared.reply.Reply.TheVariants as replies
 use Rattle.oathd_asking.specs.declared.fault.AskFault.{AskFault}
-use Rattle.oathd_asking.specs.declared.fault.AskFault.TheVariants.{Memory, CannotWrite, NoClock, OperatorFile, NoUser, NoRight, NoRequest, NoReport, Degraded, NoMajority, Socket, NoAnswer}
+use Rattle.oathd_asking.specs.declared.fault.AskFault.TheVariants.{Memory, CannotWrite, NoClock, OperatorFile, NoUser, NoRight, NoRequest, NoReport, Busy, Degraded, NoMajority, Socket, NoAnswer}
 
 -- the exit status
 abbrev pub status_of : AskFault → ℕ
@@ -17,6 +17,7 @@ status_of (NoUser user) = 1
 status_of (NoRight address) = 1
 status_of (NoRequest address) = 1
 status_of (NoReport address) = 1
+status_of (Busy address) = 1
 status_of Degraded = 1
 status_of NoMajority = 2
 status_of Socket = 4
@@ -26,6 +27,7 @@ status_of (NoAnswer address) = 4
 abbrev pub refusal_by : SocketAddrV4 → Option Reply → AskFault
 refusal_by address (Some replies.NoRight) = NoRight address
 refusal_by address (Some replies.NoReport) = NoReport address
+refusal_by address (Some replies.Busy) = Busy address
 refusal_by address reply = NoRequest address
 
 -- the fault of a text that is no page
@@ -53,6 +55,7 @@ IsOfReport address (NoAnswer other) = other ≡ address
 IsOfReport address (NoRight other) = other ≡ address
 IsOfReport address (NoRequest other) = other ≡ address
 IsOfReport address (NoReport other) = other ≡ address
+IsOfReport address (Busy other) = other ≡ address
 IsOfReport address fault = ⊥
 
 -- the same, or the output failed

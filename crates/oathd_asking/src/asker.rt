@@ -149,6 +149,31 @@ impl<'n, N: Net + TimeSource> Asker<'n, N> {
         Ok(())
     }
 
+    /// Waits for a second. A flood of datagrams ends it too. What comes meanwhile is dropped.
+    ///
+    /// # Errors
+    /// - Returns `NoClock` if the clock tells no time.
+    /// - Returns `Socket` if the socket fails.
+    pub(crate) fn pause<'a>(&self) -> Result<(), AskFault<'a>>
+        ensures { IfErr result IsOfSocket }
+    {
+        let mut buffer = [0; MAX_REPORT_LEN];
+        let Some(begin) = millis_of(self.outside) else {
+            return Err(AskFault::NoClock);
+        };
+        for _ in 0..MAX_HEARD {
+            let Some(now) = millis_of(self.outside) else {
+                return Err(AskFault::NoClock);
+            };
+            let gone = now.saturating_sub(begin);
+            if gone >= WAIT_MILLIS {
+                return Ok(());
+            }
+            let _heard = self.hear(WAIT_MILLIS - gone, &mut buffer)?;
+        }
+        Ok(())
+    }
+
     /// Sends each request, and receives the reports. A request without a report is sent again after a second, or after
     /// 65,536 datagrams, at most three times in all.
     ///

@@ -30,6 +30,9 @@ pub enum AskFault<'a> {
     /// The node has no such report.
     #[error("the node at {0} refuses: NO REPORT")]
     NoReport(SocketAddrV4),
+    /// The node is busy with the requests of readers.
+    #[error("the node at {0} refuses: NO BUSY")]
+    Busy(SocketAddrV4),
     /// A member is silent, or it differs from the first.
     #[error("not all members are well")]
     Degraded,
@@ -59,6 +62,7 @@ impl ProgramFault for AskFault<'_> {
             | AskFault::NoRight(_)
             | AskFault::NoRequest(_)
             | AskFault::NoReport(_)
+            | AskFault::Busy(_)
             | AskFault::Degraded => 1,
             AskFault::NoMajority => 2,
             AskFault::Socket | AskFault::NoAnswer(_) => 4,

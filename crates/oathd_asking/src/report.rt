@@ -1,8 +1,10 @@
 //! A report of a node, from its pages.
 
-ghost use Rattle.std.specs.Prelude.{◌≡◌, ◌≢◌, ◌<◌, ◌++◌, ◌∷◌, [], map, IfErr, IfOk, IfSome, OnOk, Some};
+ghost use Rattle.std.specs.Prelude.{◌≡◌, ◌≢◌, ◌↔◌, ◌<◌, ◌++◌, ◌∷◌, [], map, IfErr, IfOk, IfSome, IsTrue, OnOk, Some};
 ghost use Rattle.operator_text.specs.Pages.{lines_in};
 ghost use Rattle.operator_text.specs.Reading.{page_at};
+ghost use Rattle.operator_text.specs.Reply.{reply_at};
+ghost use Rattle.operator_text.specs.declared.reply.Reply.TheVariants.{Busy};
 ghost use Rattle.oathd_asking.specs.Asked.{IsFirstReport, asked_of};
 ghost use Rattle.oathd_asking.specs.Fault.{IsOfExchange, IsOfPrinting, IsOfReport};
 ghost use Rattle.oathd_asking.specs.Fault as spec;
@@ -25,6 +27,9 @@ use std::time::Clock as TimeSource;
 
 /// The maximum number of times that a report is begun.
 const MAX_BEGINNINGS: u8 = 3;
+
+/// The maximum number of times that a busy node is asked for a page.
+const MAX_BUSY: u8 = 10;
 
 /// The maximum number of pages of a report: 1 GiB.
 const MAX_PAGES: u32 = 1_048_576;
@@ -93,8 +98,18 @@ pub(crate) fn report_on<'a, N: Net + TimeSource>(
     }
 }
 
-/// Returns the page of a report from the line `from` on.
-fn page_on<'a, N: Net + TimeSource>(
+/// Returns whether the text of a report says that the node is busy with the requests of readers.
+pub(crate) fn is_busy(text: &[u8]) -> bool
+    ensures { IsTrue result ↔ (reply_at text.now ≡ Some Busy) }
+{
+    match read_reply(text) {
+        Some(Reply::Busy) => true,
+        _ => false,
+    }
+}
+
+/// Sends a request for the page of a report from the line `from` on, and returns the report.
+fn page_once<'a, N: Net + TimeSource>(
     alloc: Global,
     asker: &mut Asker<'_, N>,
     node: AskedNode<'_>,
@@ -113,6 +128,29 @@ fn page_on<'a, N: Net + TimeSource>(
     )
 }
 
+/// Returns the page of a report from the line `from` on. A busy node is asked for it again a second later, at most ten
+/// times in all.
+pub(crate) fn page_on<'a, N: Net + TimeSource>(
+    alloc: Global,
+    asker: &mut Asker<'_, N>,
+    node: AskedNode<'_>,
+    report: Report,
+    from: u32,
+) -> Result<Page, AskFault<'a>>
+    ensures page { IfOk result (λ page.
+        IsReportOn node.entry.operator.now node.entry.number (page_request report from) page.items) }
+    ensures fault { IfErr result (IsOfExchange node.entry.address) }
+{
+    for _ in 1..MAX_BUSY {
+        let page = page_once(alloc, asker, node, report, from)?;
+        if !is_busy(&page) {
+            return Ok(page);
+        }
+        asker.pause()?;
+    }
+    page_once(alloc, asker, node, report, from)
+}
+
 /// Returns the fault of a text that is no page.
 pub(crate) fn refusal_of<'a>(address: SocketAddrV4, text: &[u8]) -> AskFault<'a>
     ensures { result ≡ spec.refusal_of address text.now }
@@ -120,6 +158,7 @@ pub(crate) fn refusal_of<'a>(address: SocketAddrV4, text: &[u8]) -> AskFault<'a>
     match read_reply(text) {
         Some(Reply::NoRight) => AskFault::NoRight(address),
         Some(Reply::NoReport) => AskFault::NoReport(address),
+        Some(Reply::Busy) => AskFault::Busy(address),
         _ => AskFault::NoRequest(address),
     }
 }
@@ -180,7 +219,7 @@ pub(crate) fn text_from<'a, N: Net + TimeSource>(
 }
 
 /// Returns the text of a report from its pages.
-fn text_of<'a, N: Net + TimeSource>(
+pub(crate) fn text_of<'a, N: Net + TimeSource>(
     alloc: Global,
     asker: &mut Asker<'_, N>,
     node: AskedNode<'_>,
@@ -216,7 +255,7 @@ fn report_text<'a, N: Net + TimeSource>(
 ///
 /// # Errors
 /// - Returns `NoAnswer` if a page doesn't come.
-/// - Returns `NoRight`, `NoRequest` or `NoReport` if the node refuses. Nothing is printed.
+/// - Returns `NoRight`, `NoRequest`, `NoReport` or `Busy` if the node refuses. Nothing is printed.
 /// - Returns `NoClock`, `Socket` or `Memory` if one of them fails.
 /// - Returns `CannotWrite` if the output fails. A prefix of the text may have been written.
 pub fn print_report<'a, N: Net + TimeSource, W: Write>(

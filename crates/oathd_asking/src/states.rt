@@ -3,7 +3,8 @@
 ghost use Rattle.std.specs.Prelude.{◌≡◌, ◌⊎◌, ◌≤◌, IfErr, IfOk, IfSome, IsErrAnd, OnOk, length, map};
 ghost use Rattle.std.specs.Io.KnownBytes.{Appends};
 ghost use Rattle.operator_text.specs.declared.request.Report.TheVariants.{Status};
-ghost use Rattle.oathd_asking.specs.Report.{page_request};
+ghost use Rattle.oathd_asking.specs.Fault.{IsOfReport};
+ghost use Rattle.oathd_asking.specs.Report.{IsReportText, page_request};
 ghost use Rattle.oathd_asking.specs.Asked.{asked_of};
 ghost use Rattle.oathd_asking.specs.Sent.{IsReportOn};
 ghost use Rattle.oathd_asking.specs.Table.{table_text};
@@ -13,7 +14,7 @@ ghost use Rattle.oathd_asking.specs.declared.fault.AskFault.TheVariants.{CannotW
 
 use crate::asker::Asker;
 use crate::fault::AskFault;
-use crate::report::{AskedNode, text_from};
+use crate::report::{AskedNode, is_busy, text_from, text_of};
 use crate::sent::{Page, Sent};
 use crate::table::{Health, health_of, write_table};
 use clients_file::OperatorEntry;
@@ -57,6 +58,23 @@ fn requests<'k>(
     Ok(all)
 }
 
+/// Returns the text of a member's state from its first page. The page is asked for again if the member was busy.
+fn told_from<'a, N: Net + TimeSource>(
+    alloc: Global,
+    asker: &mut Asker<'_, N>,
+    node: AskedNode<'_>,
+    first: &[u8],
+) -> Result<Vec<u8>, AskFault<'a>>
+    requires { IsReportOn node.operator.now node.number (page_request Status 0) first.now }
+    ensures text { IfOk result (λ text. IsReportText node.entry.operator.now node.entry.number Status text.items) }
+    ensures fault { IfErr result (IsOfReport node.entry.address) }
+{
+    if is_busy(first) {
+        return text_of(alloc, asker, node, Report::Status);
+    }
+    text_from(alloc, asker, node, Report::Status, first)
+}
+
 /// Returns the text of a member's state from its first page, or no text if the member doesn't tell it.
 fn state_from<'a, N: Net + TimeSource>(
     alloc: Global,
@@ -72,12 +90,13 @@ fn state_from<'a, N: Net + TimeSource>(
     let Some(first) = first else {
         return Ok(Vec::new(alloc));
     };
-    match text_from(alloc, asker, node, Report::Status, first) {
+    match told_from(alloc, asker, node, first) {
         Err(
             AskFault::NoAnswer(_)
             | AskFault::NoRight(_)
             | AskFault::NoRequest(_)
-            | AskFault::NoReport(_),
+            | AskFault::NoReport(_)
+            | AskFault::Busy(_),
         ) => Ok(Vec::new(alloc)),
         end => end,
     }

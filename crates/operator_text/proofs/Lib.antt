@@ -5,6 +5,5 @@ pub mod PageLemmas
 pub mod PagesLemmas
 pub mod ReadingLemmas
 pub mod RequestLemmas
-pub mod StatusLemmas
 pub mod SpellingLemmas
 mod ReplyLemmas

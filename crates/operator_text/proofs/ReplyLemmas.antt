@@ -1,12 +1,12 @@
 -- The replies have one spelling, and none is a page.
-use Rattle.std.proofs.Common.{◌≡◌, ℕ, Bool, true, false, cond, List, [], ◌∷◌, Option, Some, None, refl, ap, ◌∙◌}
+use Rattle.std.proofs.Common.{◌≡◌, ℕ, Bool, true, false, cond, List, Option, Some, None, refl, ap, ◌∙◌}
 use Rattle.std.specs.Prelude.{codes}
 use Rattle.std.specs.Str.{bytes_eq}
 use Rattle.std.proofs.lemmas.Slice.Eq.{bytes_eq-Decides}
 use Rattle.operator_text.specs.Reading.{page_at}
 use Rattle.operator_text.specs.Reply.{reply_at, reply_text}
 use Rattle.operator_text.specs.declared.reply.Reply.{Reply}
-use Rattle.operator_text.specs.declared.reply.Reply.TheVariants.{NoRequest, NoRight, NoReport, NoUser, Unlocked, Draining}
+use Rattle.operator_text.specs.declared.reply.Reply.TheVariants.{NoRequest, NoRight, NoReport, NoUser, Busy, Unlocked, Draining}
 
 some_is : (x y : Reply) → (let there : Option Reply = Some x in there ≡ Some y) → x ≡ y
 some_is x y e = cc
@@ -29,14 +29,16 @@ reply_is text reply e =
     (named _ text NoRight reply _ (same text (codes "NO RIGHT\n"))
     (named _ text NoReport reply _ (same text (codes "NO REPORT\n"))
     (named _ text NoUser reply _ (same text (codes "NO USER\n"))
+    (named _ text Busy reply _ (same text (codes "NO BUSY\n"))
     (named _ text Unlocked reply _ (same text (codes "unlocked\n"))
-    (named _ text Draining reply _ (same text (codes "draining\n")) (none_is text reply)))))) e
+    (named _ text Draining reply _ (same text (codes "draining\n")) (none_is text reply))))))) e
 
 back : (reply : Reply) → reply_at (reply_text reply) ≡ Some reply
 back NoRequest = refl
 back NoRight = refl
 back NoReport = refl
 back NoUser = refl
+back Busy = refl
 back Unlocked = refl
 back Draining = refl
 
@@ -48,5 +50,6 @@ no_page NoRequest = refl
 no_page NoRight = refl
 no_page NoReport = refl
 no_page NoUser = refl
+no_page Busy = refl
 no_page Unlocked = refl
 no_page Draining = refl

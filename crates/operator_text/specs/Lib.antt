@@ -5,5 +5,3 @@ pub mod Pages
 pub mod Reading
 pub mod Reply
 pub mod Request
-pub mod Status
-pub mod StatusLine

@@ -2,7 +2,7 @@
 //!
 //! [`read_request`] accepts what [`write_request`] writes and nothing else (the law [`requests_have_one_spelling`]). A
 //! [`Page`] takes lines of a report, and [`read_page`] reads it. The pages of a report, put together, are its lines
-//! (the law [`pages_are_the_report`]). A [`Status`] has the lines of the report STATUS. No function allocates.
+//! (the law [`pages_are_the_report`]). No function allocates.
 #![tactic(auto)]
 
 mod laws;
@@ -11,9 +11,6 @@ mod page;
 mod reading;
 mod reply;
 mod request;
-mod status;
-mod status_laws;
-mod status_line;
 mod worked;
 
 pub use laws::{
@@ -23,13 +20,7 @@ pub use page::{MAX_LINE_LEN, MAX_PAGE_LEN, Page};
 pub use reading::read_page;
 pub use reply::{Reply, read_reply, write_reply};
 pub use request::{MAX_REQUEST_LEN, Report, Request, read_request, write_request};
-pub use status::{MAX_STATUS_LINES, Rows, Status, Version};
-pub use status_laws::{
-    commits_are_worked, status_is_a_report, status_lines_are_worked, status_lines_can_be_broken,
-    statuses_are_worked,
-};
-pub use status_line::{Quantity, Refusal, StatusLine};
 pub use worked::{
     lines_can_be_broken, pages_are_worked, pushes_are_worked, readings_are_worked,
-    reports_can_be_broken, requests_are_worked, wishes_can_be_broken,
+    replies_are_worked, reports_can_be_broken, requests_are_worked, wishes_can_be_broken,
 };

@@ -14,6 +14,8 @@ pub enum Reply {
     NoReport,
     /// No token has this user.
     NoUser,
+    /// The requests of readers used up their time. The same request may be asked again later.
+    Busy,
     /// The gate of the user's token is open.
     Unlocked,
     /// The node ends when no line waits.
@@ -30,6 +32,7 @@ pub fn write_reply(reply: Reply) -> &'static [u8]
         Reply::NoRight => b"NO RIGHT\n",
         Reply::NoReport => b"NO REPORT\n",
         Reply::NoUser => b"NO USER\n",
+        Reply::Busy => b"NO BUSY\n",
         Reply::Unlocked => b"unlocked\n",
         Reply::Draining => b"draining\n",
     }
@@ -47,6 +50,8 @@ pub fn read_reply(text: &[u8]) -> Option<Reply>
         Some(Reply::NoReport)
     } else if text == b"NO USER\n".as_slice() {
         Some(Reply::NoUser)
+    } else if text == b"NO BUSY\n".as_slice() {
+        Some(Reply::Busy)
     } else if text == b"unlocked\n".as_slice() {
         Some(Reply::Unlocked)
     } else if text == b"draining\n".as_slice() {

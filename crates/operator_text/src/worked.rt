@@ -7,7 +7,9 @@ ghost use Rattle.operator_text.specs.Number.{line_number};
 ghost use Rattle.operator_text.specs.Page.{AreLines, IsLine, new_part, page_of, part_text, pushed, takes};
 ghost use Rattle.operator_text.specs.Pages.{are_whole, joined, pages_of};
 ghost use Rattle.operator_text.specs.Reading.{page_at};
+ghost use Rattle.operator_text.specs.Reply.{reply_at, reply_text};
 ghost use Rattle.operator_text.specs.Request.{Ending, IsWish, Lines, OpenGate, changes, request_at, request_text};
+ghost use Rattle.operator_text.specs.declared.reply.Reply.TheVariants.{Busy, Draining, NoReport, NoRequest, NoRight, NoUser, Unlocked};
 ghost use Rattle.operator_text.specs.declared.request.Report.TheVariants.{Floors, Gates, Passes, Roster, Status};
 
 /// Worked cases. The texts of requests and their readings, and texts that are no requests.
@@ -49,6 +51,15 @@ pub fn wishes_can_be_broken()
     ensures no_user { IsWish (OpenGate []) → ⊥ }
     ensures user_with_space { IsWish (OpenGate (codes "ann bob")) → ⊥ }
     ensures ending { IsWish Ending }
+{}
+
+/// Worked cases. The texts of replies, and texts that are no replies.
+pub fn replies_are_worked()
+    ensures texts { map reply_text (NoRequest ∷ NoRight ∷ NoReport ∷ NoUser ∷ Busy ∷ Unlocked ∷ Draining ∷ [])
+        ≡ codes "NO REQUEST\n" ∷ codes "NO RIGHT\n" ∷ codes "NO REPORT\n" ∷ codes "NO USER\n" ∷ codes "NO BUSY\n"
+        ∷ codes "unlocked\n" ∷ codes "draining\n" ∷ [] }
+    ensures others { map reply_at ([] ∷ codes "NO BUSY" ∷ codes "NO busy\n" ∷ codes "NO BUSY 1\n" ∷ codes "BUSY\n" ∷ [])
+        ≡ replicate 5 None }
 {}
 
 /// Worked cases. Pages of lines that fit, fill the page or don't fit.

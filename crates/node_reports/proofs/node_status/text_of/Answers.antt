@@ -1,6 +1,6 @@
 use Rattle.std.proofs.Common.{◌∙◌, ◌++◌, ap, cond, get_or, Bool, List, ℕ}
-use Rattle.operator_text.specs.StatusLine.{line_text}
-use Rattle.operator_text.specs.declared.status_line.StatusLine.TheVariants.{Node}
+use Rattle.status_text.specs.StatusLine.{line_text}
+use Rattle.status_text.specs.declared.status_line.StatusLine.TheVariants.{Node}
 use Rattle.node_reports.proofs.NodeStatusLemmas.{lines_on}
 use Rattle.node_reports.proofs.node_status.text_of.Goals as goal
 

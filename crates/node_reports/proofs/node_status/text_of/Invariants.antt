@@ -1,6 +1,6 @@
 use Rattle.std.proofs.Common.{◌≡◌, map, take}
 use Rattle.std.specs.List.{concat}
-use Rattle.operator_text.specs.StatusLine.{line_text}
+use Rattle.status_text.specs.StatusLine.{line_text}
 use Rattle.node_reports.proofs.node_status.text_of.Given as goal
 
 -- the lines so far are written

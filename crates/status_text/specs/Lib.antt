@@ -1,0 +1,3 @@
+pub mod Examples
+pub mod Status
+pub mod StatusLine
