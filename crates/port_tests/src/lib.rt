@@ -1,5 +1,5 @@
-//! The tests of `bundle_port`, `count_port`, `floor_port`, `named_port` and `sealed_port`, with `named_wire`, by their
-//! public calls alone. They are a crate of their own, since a crate is proved again with its tests.
+//! The tests of `bundle_port`, `count_port` and `sealed_port`, by their public calls alone. They are a crate of their own,
+//! since a crate is proved again with its tests.
 #![tactic(auto)]
 
 #[cfg(test)]
@@ -8,11 +8,5 @@ mod bundle_port_tests;
 mod count_port_tests;
 #[cfg(test)]
 mod entries;
-#[cfg(test)]
-mod floor_port_tests;
-#[cfg(test)]
-mod named_port_tests;
-#[cfg(test)]
-mod named_wire_tests;
 #[cfg(test)]
 mod sealed_port_tests;

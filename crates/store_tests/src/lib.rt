@@ -1,5 +1,5 @@
-//! The tests of stores in tables of SQLite, by their public calls alone: `floor_sql`, `roster_sql`, `named_store`,
-//! `seated_store` and `named_floors`. They are a crate of their own, since a crate is proved again with its tests.
+//! The tests of stores in tables of SQLite, by their public calls alone: `floor_sql`, `named_store`, `seated_store` and
+//! `named_floors`. They are a crate of their own, since a crate is proved again with its tests.
 #![tactic(auto)]
 
 #[cfg(test)]
@@ -9,8 +9,4 @@ mod named_floors_tests;
 #[cfg(test)]
 mod named_store_tests;
 #[cfg(test)]
-mod roster_sql_tests;
-#[cfg(test)]
 mod seated_store_tests;
-#[cfg(test)]
-mod stop_tests;

@@ -1,5 +1,5 @@
 use Rattle.std.proofs.Common.{arith}
-use Rattle.store_tests.proofs.roster_sql_tests.enrols.Goals as goal
+use Rattle.roster_sql_tests.proofs.tests.enrols.Goals as goal
 
 -- without puts nothing is asked of the tables
 pub enrol-requires-clause-can : goal.enrol-requires-clause-can

@@ -1,6 +1,6 @@
 //! A power cut within an enrolment leaves the store as it was, or with all new tokens.
 
-use crate::roster_sql_tests::{enrols, four_entries, four_floors, makes, names};
+use crate::tests::{enrols, four_entries, four_floors, makes, names};
 use otp_core::Next;
 use roster_sql::{Bond, Entry};
 use sqlite::{Connection, FileStore, Files, Options};
