@@ -1,3 +1,4 @@
+pub mod Answered
 pub mod Broken
 pub mod Examples
 pub mod Floors

@@ -9,8 +9,8 @@ mod part_laws;
 mod seed_laws;
 
 pub use laws::{
-    answers_can_be_broken, books_are_safe, books_are_worked, books_can_be_broken,
-    grounds_are_worked, held_floors_raise_no_further, histories_keep_uses,
+    answers_are_worked, answers_can_be_broken, books_are_safe, books_are_worked,
+    books_can_be_broken, grounds_are_worked, held_floors_raise_no_further, histories_keep_uses,
     opened_gates_are_actions, served_nodes_are_processes, stretches_are_processes,
     told_floors_can_be_broken, uses_are_worked, uses_can_be_broken,
 };
