@@ -28,3 +28,4 @@ pub mod Rows
 pub mod Seeds
 pub mod Openings
 pub mod OneDevice
+pub mod Writes

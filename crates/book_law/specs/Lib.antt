@@ -11,3 +11,4 @@ pub mod Stretches
 pub mod Uses
 pub mod Seeds
 pub mod SeedExamples
+pub mod Writes

@@ -7,6 +7,7 @@
 mod laws;
 mod part_laws;
 mod seed_laws;
+mod write_laws;
 
 pub use laws::{
     answers_are_worked, answers_can_be_broken, books_are_safe, books_are_worked,
@@ -20,3 +21,4 @@ pub use part_laws::{
 pub use seed_laws::{
     devices_are_safe, devices_can_be_broken, uses_of_devices_can_be_broken, uses_open_stores,
 };
+pub use write_laws::{commands_are_actions, commands_are_worked, cut_openings_are_actions};
