@@ -12,3 +12,4 @@ pub mod Uses
 pub mod Seeds
 pub mod SeedExamples
 pub mod Writes
+pub mod ActionExamples

@@ -4,11 +4,13 @@
 //! promises about acceptances and answers hold in every history.
 #![tactic(auto)]
 
+mod action_laws;
 mod laws;
 mod part_laws;
 mod seed_laws;
 mod write_laws;
 
+pub use action_laws::{actions_are_worked, losses_are_worked};
 pub use laws::{
     answers_are_worked, answers_can_be_broken, books_are_safe, books_are_worked,
     books_can_be_broken, grounds_are_worked, held_floors_raise_no_further, histories_keep_uses,

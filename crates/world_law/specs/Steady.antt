@@ -120,7 +120,7 @@ AreSent setting first [] state = Unit {0}
 AreSent setting first (action ∷ actions) state =
     WasSentIn state action × AreSent setting (suc first) actions (state_after_action setting first action state)
 
--- A history of a cluster whose users file never changes. First the stores get their rows, and then processes act.
+-- A history of a cluster whose users file never changes. First the stores get their rows. Then processes act.
 -- Envelopes from before fit, and are of boots before those of the first stores.
 pub record IsSteady (cluster : SteadyCluster) (before actions : List Action) : Type 0 where
   pub starts : MayOpen (nodes_of cluster) (tokens_of cluster)
