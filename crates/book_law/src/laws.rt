@@ -493,6 +493,8 @@ pub fn uses_are_worked()
     ensures first { (first_store late 1).content.boot ≡ last_boot - 1 }
     ensures after { store_after alone three_uses (first_store alone 1)
         ≡ record { names = 0 ∷ []; content = record { rows = row_from 31 ∷ []; boot = 5; last = None } } }
+    ensures raised_after_a_process { floor_of (store_after alone (ServesStore silver_alone [] [] [] silver_row.content
+        ∷ Writes (Raises 1 0 9) ∷ []) silver_row) 0 ≡ 9 }
     ensures own { own_process alone 1 0 takes_silver (Down (first_store alone 1)) ≡ process_of_1 takes_silver }
     ensures of_another { own_process alone 2 0 takes_silver (Down (first_store alone 2))
         ≡ Down (first_store alone 2) }
@@ -500,6 +502,7 @@ pub fn uses_are_worked()
     ensures offers_of_another { own_offers alone 2 0 answers_silver (Down (first_store alone 2)) ≡ [] }
     ensures inputs { inputs_at 1 answers_silver ≡ silver_line ∷ [] }
     ensures inputs_of_another { inputs_at 2 answers_silver ≡ [] }
+    ensures inputs_of_a_stop { inputs_at 1 (StopsIn 1 true Tick ∷ Takes 1 silver_line ∷ []) ≡ silver_line ∷ [] }
     ensures named { named_output maple_first (ToPeerOwn (record { sender = 2; receiver = 1; message = Floor 1 4 }))
         ≡ ToPeer old_floor }
     ensures answer_named { named_output maple_first (ToClientOwn silver_ok) ≡ ToClient silver_ok }
