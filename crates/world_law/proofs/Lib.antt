@@ -7,3 +7,4 @@ pub mod Seats
 pub mod SingleNode
 pub mod Steps
 pub mod Sweeps
+pub mod Enrolments

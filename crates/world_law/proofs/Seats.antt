@@ -34,7 +34,7 @@ number_is n c t within low = elim (option_cases (number_of c (seat_name (own_sea
       some.1 ∙ ap Some (sym own ∙ there.1)
 ]
 
-number_none : (n c t : ℕ) → c ≤ n → c ≤ t → number_of c (seat_name (own_seats n)) t ≡ None
+pub number_none : (n c t : ℕ) → c ≤ n → c ≤ t → number_of c (seat_name (own_seats n)) t ≡ None
 number_none n c t within high = elim (option_cases (number_of c (seat_name (own_seats n)) t)) [
   | inl none ↦ none
   | inr some ↦

@@ -445,7 +445,8 @@ sweeps_level grounds justified law cluster before actions stretch live steady ar
     let up : AreUp live w = λ j live_j.
     let l = are j live_j in
     let h = held cluster w (old.processes j) (w.nodes j) (start.processes j live_j) in
-    let same : l.machine ≡ w.nodes j = same_up l.terms l.below l.machine l.waiting h.0 h.1 (w.nodes j) h.2 (sym l.is_up ∙ h.3) in
+    let now : Process = Up h.0 h.1 (w.nodes j) h.2 in
+    let same : l.machine ≡ w.nodes j = same_up l.terms l.below l.machine l.waiting h.0 h.1 (w.nodes j) h.2 (◌∙◌ {c = now} (sym l.is_up) h.3) in
     (world_stored cluster live first w old j start live_j, subst (λ (s : NodeState). s.running ≡ true) same l.running) in
     let v = world_after_events config first (sweep_events config live first w) w in
     let steps = filter (is_step_of live) stretch in

@@ -1,6 +1,6 @@
 -- Histories of a cluster whose users file, limits and key never change. Floor: the first free factor of a token at a
 -- node.
-use Rattle.std.specs.Prelude.{◌≡◌, ℕ, suc, ◌+◌, ◌<◌, true, List, [], ◌∷◌, length, map, Some}
+use Rattle.std.specs.Prelude.{◌≡◌, ℕ, zero, suc, ◌+◌, ◌<◌, true, List, [], ◌∷◌, ◌++◌, length, map, Some}
 use Rattle.seated_store.specs.Places.{own_seats}
 use Rattle.vote_core.specs.Books.{blank_opening}
 use Rattle.vote_core.specs.Safety.{MayOpen}
@@ -79,6 +79,20 @@ pub record AreEnrolled (cluster : SteadyCluster) (before : List Action) : Type 0
   pub only : AreEnrolments before
   pub stores : (node : ℕ) → is_member (nodes_of cluster) node ≡ true
       → (state_of (setting_of cluster) before).processes node ≡ Down (enrolled_store cluster node)
+
+-- the enrolments of a node's rows, in the order of the users file
+abbrev pub rows_of : SteadyCluster → ℕ → List Action
+rows_of cluster node =
+    map (λ token. Enrols node token (floor_at cluster.floors node token)) (own_seats (tokens_of cluster))
+
+-- the enrolments of the nodes from 1 up to the given one
+abbrev pub enrolments_up_to : SteadyCluster → ℕ → List Action
+enrolments_up_to cluster zero = []
+enrolments_up_to cluster (suc node) = enrolments_up_to cluster node ++ rows_of cluster (suc node)
+
+-- the enrolments of all nodes
+abbrev pub enrolments_of : SteadyCluster → List Action
+enrolments_of cluster = enrolments_up_to cluster (nodes_of cluster)
 
 -- A process opens under the terms, and a replacement store gets the same rows and has a boot left. Nothing else writes
 -- a row: no command, no enrolment and no operator.

@@ -13,7 +13,7 @@ ghost use Rattle.world_law.specs.Broken.{answers_late, answers_twice_late, both_
 ghost use Rattle.world_law.specs.Bytes.{IsSized, IsUnforged, IsUnforgedAction, IsUnforgedHistory};
 ghost use Rattle.world_law.specs.Examples.{among_strangers, answers_once, ask, comes, comes_to_nobody, ends_before_the_answer, ends_in_the_step, first_ok, floor_comes, floor_from_nobody, forged_grant_comes, grant, grant_before_its_offer, grant_from, granted_by_two, nodes_after, offered_by, one_node, one_open, one_row, one_terms, opens_one, right_line, stop_in_a_forged_grant, takes_twice, three_nodes, three_rows, three_terms, told_by_reference, two_open};
 ghost use Rattle.world_law.specs.SingleNode.{IsPartOf};
-ghost use Rattle.world_law.specs.Steady.{AreEnrolled, AreSteady, IsSteady, SteadyCluster, new_cluster, setting_of, tokens_of};
+ghost use Rattle.world_law.specs.Steady.{AreEnrolled, AreSteady, IsSteady, SteadyCluster, enrolments_of, new_cluster, setting_of, tokens_of};
 ghost use Rattle.world_law.specs.Sweeps.{IsLive, IsSweep, IsSwept, IsTick, greatest_in, is_step_of, next_in};
 ghost use Rattle.world_law.specs.Worlds.{HasAct, HasEvent, IsActOf, IsEventOf, IsExplained, IsRunOf, nothing};
 
@@ -21,6 +21,7 @@ ghost use Rattle.world_law.specs.Worlds.{HasAct, HasEvent, IsActOf, IsEventOf, I
 pub fn steady_histories_are_worked()
     ensures enrolled { AreEnrolled one_node one_row }
     ensures enrolled_three { AreEnrolled three_nodes three_rows }
+    ensures enrolments { enrolments_of three_nodes ≡ three_rows }
     ensures is_steady { IsSteady one_node one_row answers_once }
     ensures accepted { accepted_in (setting_of one_node) (one_row ++ answers_once) ≡ acceptance 2 2 1 0 0 ∷ [] }
     ensures answered { answered_in (setting_of one_node) (one_row ++ answers_once) ≡ first_ok ∷ [] }

@@ -7,7 +7,7 @@ ghost use Rattle.cluster_sim.specs.World.{WorldEvent};
 ghost use Rattle.oath_node.specs.Machine.{Config};
 ghost use Rattle.world_law.specs.Bytes.{IsSized, IsUnforgedHistory};
 ghost use Rattle.world_law.specs.SingleNode.{IsPartOf, cluster_of_one, reference_of};
-ghost use Rattle.world_law.specs.Steady.{IsSteady, SteadyCluster, setting_of};
+ghost use Rattle.world_law.specs.Steady.{AreEnrolled, IsSteady, SteadyCluster, enrolments_of, setting_of};
 ghost use Rattle.world_law.specs.Sweeps.{SweepsLevel};
 ghost use Rattle.world_law.specs.Worlds.{IsExplained, IsRunOf};
 
@@ -29,6 +29,11 @@ pub fn steady_histories_are_worlds()
     answers_belong_to_passes();
     rulings_have_grounds();
 }
+
+/// Enrolments: the stores of each cluster can get their rows.
+pub fn clusters_can_be_enrolled()
+    ensures { (cluster : SteadyCluster) → AreEnrolled cluster (enrolments_of cluster) }
+{}
 
 /// Equivalence: the answers of a single node's processes are a subsequence of the reference server's answers.
 ///

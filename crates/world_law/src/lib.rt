@@ -12,6 +12,6 @@ pub use cases::{
     unforged_bytes_can_be_broken,
 };
 pub use laws::{
-    one_node_answers_as_the_reference, steady_histories_are_worlds, sweeps_level_stores,
-    unforged_bytes_are_genuine,
+    clusters_can_be_enrolled, one_node_answers_as_the_reference, steady_histories_are_worlds,
+    sweeps_level_stores, unforged_bytes_are_genuine,
 };

@@ -40,6 +40,9 @@ three_enrolled = record { only = (tt, (tt, (tt, tt))); stores = three_stores }
 pub returns-clause-enrolled_three : goal.returns-clause-enrolled_three
 returns-clause-enrolled_three c = three_enrolled
 
+pub returns-clause-enrolments : goal.returns-clause-enrolments
+returns-clause-enrolments c = refl
+
 pub returns-clause-is_steady : goal.returns-clause-is_steady
 unfolding AreSent code_at first_words schedule rounds compress hash_after digest_bytes sha1 state_after state_after_action made_by_event made_while_running made_by_datagram made_by_ruling made_by_proposal propose propose_alone propose_among on_ask accept count_grant on_grant raise count_deny on_deny on_floor on_message tick
 returns-clause-is_steady c = record {
