@@ -1,4 +1,4 @@
--- Batches after which the run continues equal the run over their events. The same lemmas are in cluster_law.
+-- Batches after which the run continues equal the run over their events.
 use Rattle.std.proofs.Common.{◌≡◌, ℕ, List, [], ◌∷◌, ◌++◌, map, Option, Some, None, refl, sym, ap, ◌∙◌, subst}
 use Rattle.std.proofs.lemmas.List.{append-nil, append_assoc}
 use Rattle.std.proofs.lemmas.Option.{none-some}

@@ -1,4 +1,5 @@
 pub mod Actions
+pub mod Answered
 pub mod Commands
 pub mod Effects
 pub mod Events
@@ -9,6 +10,7 @@ pub mod Held
 pub mod Justified
 pub mod Opened
 pub mod Operators
+pub mod Owed
 pub mod Own
 pub mod Parts
 pub mod Recorded
@@ -26,3 +28,4 @@ pub mod Rows
 pub mod Seeds
 pub mod Openings
 pub mod OneDevice
+pub mod Writes

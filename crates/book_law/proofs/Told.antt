@@ -4,7 +4,7 @@ use Rattle.std.proofs.Common.{◌≡◌, ℕ, suc, ◌+◌, ◌<◌, ◌≤◌, 
 use Rattle.std.specs.Prelude.{option_map}
 use Rattle.std.specs.List.{slice_get}
 use Rattle.std.proofs.lemmas.Bool.{cond_both}
-use Rattle.std.proofs.lemmas.List.{append-nil}
+use Rattle.std.proofs.lemmas.List.{append-nil, append_assoc}
 use Rattle.std.proofs.lemmas.Option.{none-some, same_Some, slice_get-map}
 use Rattle.floor_store.specs.Records.{PassRecord, ProposalRecord}
 use Rattle.otp_core.specs.Acceptance.{Acceptance}
@@ -15,8 +15,8 @@ use Rattle.vote_core.specs.Schedule.{Begun, began_in, last_boot}
 use Rattle.vote_core.specs.Voting.{same_proposal}
 use Rattle.vote_core.proofs.Basics.{Each, each_append, each_get, each_weaker}
 use Rattle.oath_node.specs.Machine.{Beginning, Made, NodeEvent, NodeState, Client, Peer, Tick, Reply, made_by_event, made_while_running, opened_node, quiet_made}
-use Rattle.cluster_sim.specs.Answered.{BelongsToPass, IsAskedIn, IsOk, IsSaidIn, ok_bytes}
-use Rattle.cluster_sim.specs.World.{Answer, Note, Says, WorldEvent, Happens, Cut, Restart, acceptance_in, begun_in, begun_with, note_anew, note_of, passes_in, told_reply}
+use Rattle.cluster_sim.specs.Answered.{BelongsToPass, IsAnsweredIn, IsAskedIn, IsOk, IsSaidIn, ok_bytes}
+use Rattle.cluster_sim.specs.World.{Act, Answer, Note, Says, Ticks, WorldEvent, Happens, Cut, Restart, acceptance_in, begun_in, begun_with, note_anew, note_of, passes_in, told_reply}
 use Rattle.cluster_sim.proofs.BelowLaws.{GroundLaw}
 use Rattle.cluster_sim.proofs.Owners.{get_more}
 use Rattle.cluster_sim.proofs.Reports.{begun_elsewhere}
@@ -25,18 +25,21 @@ use Rattle.cluster_sim.proofs.Tells.{Backed, BeganAt, Comes, NodeKept, Said, Tel
 use Rattle.book_law.specs.Lives.{Action, Opens, FailsToOpen, Takes, Offers, Stops, StopsIn, Loses, Remakes, Enrols, Unlocks, OpensGate, Raises, Output, Process, Sealed, Setting, State, Store, Terms, ToClient, ToPeer, Down, Up, answered_in, answers_among, can_be, do_fit, first_state, made_by_input, may_enrol, named_beginning, node_of_action, note_of_step, number_to_unlock, outputs_of_step, place_in, process_opened, sealed_from, seen_in, state_after, state_after_action, state_of, state_unlocked, state_with, store_in_next_boot, store_with_row, with_process}
 use Rattle.book_law.specs.Promises.{AnswerTruly, BelongsToAcceptance, IsAskedInAction, IsSaidInAction}
 use Rattle.book_law.proofs.Fits.{set_at}
+use Rattle.book_law.proofs.Owed.{AreOwed, all_owed_later, new_owed, stop_owes}
 
--- ---- the lines of a history, as events of the world; all else is nothing
+-- ---- the inputs of a history, as events of the world; all else is nothing
 
-abbrev line_taken : ℕ → NodeEvent → WorldEvent
-line_taken i (Client client moment text) = Happens (Says i client moment text)
-line_taken i (Peer from read) = Restart 0
-line_taken i Tick = Restart 0
+-- an input that is no line is a tick: it matters only that it comes
+abbrev pub line_act : ℕ → NodeEvent → Act
+line_act i (Client client moment text) = Says i client moment text
+line_act i (Peer from read) = Ticks i
+line_act i Tick = Ticks i
 
-abbrev line_cut : ℕ → NodeEvent → WorldEvent
-line_cut i (Client client moment text) = Cut true (Says i client moment text)
-line_cut i (Peer from read) = Restart 0
-line_cut i Tick = Restart 0
+abbrev pub line_taken : ℕ → NodeEvent → WorldEvent
+line_taken i input = Happens (line_act i input)
+
+abbrev pub line_cut : ℕ → NodeEvent → WorldEvent
+line_cut i input = Cut true (line_act i input)
 
 abbrev pub line_event : Action → WorldEvent
 line_event (Takes i input) = line_taken i input
@@ -53,7 +56,7 @@ cut_asked node client line nonce i (Client by moment text) h = h
 cut_asked node client line nonce i (Peer from read) h = absurd h
 cut_asked node client line nonce i Tick h = absurd h
 
-asked_back : (node client : ℕ) (line nonce : List ℕ) (o : Option Action) → IsAskedIn node client line nonce (option_map line_event o) → IsAskedInAction node client line nonce o
+pub asked_back : (node client : ℕ) (line nonce : List ℕ) (o : Option Action) → IsAskedIn node client line nonce (option_map line_event o) → IsAskedInAction node client line nonce o
 asked_back node client line nonce None h = absurd h
 asked_back node client line nonce (Some (Opens i terms)) h = absurd h
 asked_back node client line nonce (Some (FailsToOpen i raised)) h = absurd h
@@ -173,9 +176,25 @@ abbrev KeptAt : List WorldEvent → List Note → ℕ → ℕ → Process → Ty
 KeptAt events raw e i (Down store) = Unit {0}
 KeptAt events raw e i (Up terms below state waiting) = NodeKept events raw e i state × Each (IsBacked events (passes_in raw)) waiting
 
-pub record Honest (events : List WorldEvent) (e : ℕ) (state : State) : Type 0 where
+-- the answers that an action at the given process makes
+abbrev pub answers_made : Setting → ℕ → Action → Process → List Answer
+answers_made setting e (Takes i input) (Up terms below x waiting) = map (told_reply e i) (made_by_input setting terms i input x).replies
+answers_made setting e d p = []
+
+-- the answers that an action makes
+abbrev pub answers_by : Setting → ℕ → Action → State → List Answer
+answers_by setting e d state = cond (can_be setting state d) (answers_made setting e d (state.processes (node_of_action d))) []
+
+-- the answers that the actions make
+abbrev pub answers_in : Setting → ℕ → List Action → State → List Answer
+answers_in setting e [] state = []
+answers_in setting e (d ∷ ds) state = answers_by setting e d state ++ answers_in setting (suc e) ds (state_after_action setting e d state)
+
+-- `made` are the answers that the actions before made
+pub record Honest (events : List WorldEvent) (e : ℕ) (state : State) (made : List Answer) : Type 0 where
   pub raw : List Note
   pub notes : AreNotes raw state.notes
+  pub owed : AreOwed events made (passes_in raw)
   pub processes : (i : ℕ) → KeptAt events raw e i (state.processes i)
   pub offered : Each (IsBacked events (passes_in raw)) state.offered
 
@@ -243,14 +262,15 @@ unlocked_kept : (events : List WorldEvent) (raw : List Note) (e i : ℕ) (o : Op
 unlocked_kept events raw e i None x h = h
 unlocked_kept events raw e i (Some k) x h = record { owners = h.owners; owned = h.owned; answers = h.answers }
 
-module _ (law : GroundLaw) (setting : Setting) (events : List WorldEvent) (e : ℕ) (state : State) (h : Honest events e state) where
+module _ (law : GroundLaw) (setting : Setting) (events : List WorldEvent) (e : ℕ) (state : State) (before : List Answer) (h : Honest events e state before) where
   -- the claims after an action that has no note
   quiet : (i : ℕ) (p : Process) (hs : List Output) → KeptAt events h.raw (suc e) i p → Each (IsBacked events (passes_in h.raw)) hs
       → (lost : ℕ → Bool) (least : ℕ → ℕ)
-      → Honest events (suc e) (record { processes = with_process i p state.processes; lost = lost; least = least; offered = state.offered ++ hs; notes = state.notes })
+      → Honest events (suc e) (record { processes = with_process i p state.processes; lost = lost; least = least; offered = state.offered ++ hs; notes = state.notes }) (before ++ [])
   quiet i p hs here known lost least = record {
     raw = h.raw;
     notes = h.notes;
+    owed = all_owed_later events before [] (passes_in h.raw) h.owed;
     processes = set_at (λ j q. KeptAt events h.raw (suc e) j q) i p state.processes here
         (λ j ne. kept_later events e j h.raw h.raw (state.processes j) (grows_none j h.raw) (h.processes j));
     offered = each_append (IsBacked events (passes_in h.raw)) state.offered hs h.offered known;
@@ -272,12 +292,15 @@ module _ (law : GroundLaw) (setting : Setting) (events : List WorldEvent) (e : �
 
   -- a step whose change is kept
   stepped : (i : ℕ) (terms : Terms) (x : NodeState) (made : Made) (premise : Type 0) → Tells events h.raw e i premise made → (p : Process) → KeptAt events (note_of e i made ∷ h.raw) (suc e) i p
-      → Honest events (suc e) (record { processes = with_process i p state.processes; lost = state.lost; least = state.least; offered = state.offered ++ []; notes = note_of_step terms e i made ∷ state.notes })
-  stepped i terms x made premise t p here =
+      → (told : List Answer) → AreOwed events (before ++ told) (acceptance_in (begun_in (note_of e i made ∷ h.raw)) e i made.pass)
+      → Honest events (suc e) (record { processes = with_process i p state.processes; lost = state.lost; least = state.least; offered = state.offered ++ []; notes = note_of_step terms e i made ∷ state.notes }) (before ++ told)
+  stepped i terms x made premise t p here told owed =
       let raw = note_of e i made ∷ h.raw in
       record {
         raw = raw;
         notes = step_notes terms e i made h.raw state.notes h.notes;
+        owed = each_append (λ (q : Acceptance). IsAnsweredIn events (before ++ told) q (slice_get events q.ended)) (passes_in h.raw) (acceptance_in (begun_in raw) e i made.pass)
+            (all_owed_later events before told (passes_in h.raw) h.owed) owed;
         processes = set_at (λ j q. KeptAt events raw (suc e) j q) i p state.processes here
             (λ j ne. kept_later events e j h.raw raw (state.processes j) (grows_step e i j made h.raw t.began ne) (h.processes j));
         offered = each_append (IsBacked events (passes_in raw)) state.offered [] (all_later events h.raw raw (acceptance_in (begun_in raw) e i made.pass) refl state.offered h.offered) tt;
@@ -292,7 +315,7 @@ module _ (law : GroundLaw) (setting : Setting) (events : List WorldEvent) (e : �
   replies_backed i passes (r ∷ rs) k = (k.0, replies_backed i passes rs k.1)
 
   takes : (i : ℕ) (terms : Terms) (below : Store) (x : NodeState) (waiting : List Output) (input : NodeEvent) → slice_get events e ≡ Some (line_taken i input) → KeptAt events h.raw e i (Up terms below x waiting)
-      → Honest events (suc e) (state_with setting e (Takes i input) (Up terms below x waiting) state)
+      → Honest events (suc e) (state_with setting e (Takes i input) (Up terms below x waiting) state) (before ++ map (told_reply e i) (made_by_input setting terms i input x).replies)
   takes i terms below x waiting input at k =
       let made = made_by_input setting terms i input x in
       let raw = note_of e i made ∷ h.raw in
@@ -303,33 +326,35 @@ module _ (law : GroundLaw) (setting : Setting) (events : List WorldEvent) (e : �
             (all_later events h.raw raw (acceptance_in (begun_in raw) e i made.pass) refl waiting k.1)
             (each_append (IsBacked events (passes_in raw)) (map (λ (sealed : Sealed). ToPeer sealed) (map (sealed_from terms i) made.sends)) (map (λ (answer : Answer). ToClient answer) (map (told_reply e i) made.replies))
             (sends_backed (passes_in raw) (map (sealed_from terms i) made.sends)) (replies_backed i (passes_in raw) made.replies (t.told (said_taken events e i input at)))),
-      )
+      ) (map (told_reply e i) made.replies) (new_owed events e i (begun_in raw) before made.replies (line_act i input) at made.pass t.replied)
 
   cuts : (i : ℕ) (terms : Terms) (below : Store) (x : NodeState) (waiting : List Output) (input : NodeEvent) → slice_get events e ≡ Some (line_cut i input) → KeptAt events h.raw e i (Up terms below x waiting)
-      → Honest events (suc e) (state_with setting e (StopsIn i true input) (Up terms below x waiting) state)
+      → Honest events (suc e) (state_with setting e (StopsIn i true input) (Up terms below x waiting) state) (before ++ [])
   cuts i terms below x waiting input at k =
       let made = made_by_input setting terms i input x in
-      stepped i terms x made (Said events e i input) (tells i terms x input (comes_cut events e i input at) k.0) (Down _) tt
+      stepped i terms x made (Said events e i input) (tells i terms x input (comes_cut events e i input at) k.0) (Down _) tt []
+      (stop_owes events e i (begun_in (note_of e i made ∷ h.raw)) (before ++ []) (line_act i input) at made.pass)
 
   offers : (i : ℕ) (terms : Terms) (below : Store) (x : NodeState) (waiting : List Output) → KeptAt events h.raw e i (Up terms below x waiting)
-      → Honest events (suc e) (state_with setting e (Offers i) (Up terms below x waiting) state)
+      → Honest events (suc e) (state_with setting e (Offers i) (Up terms below x waiting) state) (before ++ [])
   offers i terms below x [] k = quiet i (Up terms below x []) [] (later i (Up terms below x []) k) tt state.lost state.least
   offers i terms below x (o ∷ waiting) k = quiet i (Up terms below x waiting) (o ∷ []) (later i (Up terms below x waiting) (k.0, k.1.1)) (k.1.0, tt) state.lost state.least
 
   -- a store is replaced
   anew : (i : ℕ) (p : Process) → KeptAt events (note_anew e i ∷ h.raw) (suc e) i p → (lost : ℕ → Bool)
-      → Honest events (suc e) (record { processes = with_process i p state.processes; lost = lost; least = state.least; offered = state.offered ++ []; notes = note_anew e i ∷ state.notes })
+      → Honest events (suc e) (record { processes = with_process i p state.processes; lost = lost; least = state.least; offered = state.offered ++ []; notes = note_anew e i ∷ state.notes }) (before ++ [])
   anew i p here lost =
       let raw = note_anew e i ∷ h.raw in
       record {
         raw = raw;
         notes = anew_notes e i h.raw state.notes h.notes;
+        owed = each_append (λ (q : Acceptance). IsAnsweredIn events (before ++ []) q (slice_get events q.ended)) (passes_in h.raw) [] (all_owed_later events before [] (passes_in h.raw) h.owed) tt;
         processes = set_at (λ j q. KeptAt events raw (suc e) j q) i p state.processes here
             (λ j ne. kept_later events e j h.raw raw (state.processes j) (grows_anew e i j h.raw) (h.processes j));
         offered = each_append (IsBacked events (passes_in raw)) state.offered [] (all_later events h.raw raw [] refl state.offered h.offered) tt;
       }
 
-  at_process : (d : Action) (p : Process) → slice_get events e ≡ Some (line_event d) → KeptAt events h.raw e (node_of_action d) p → Honest events (suc e) (state_with setting e d p state)
+  at_process : (d : Action) (p : Process) → slice_get events e ≡ Some (line_event d) → KeptAt events h.raw e (node_of_action d) p → Honest events (suc e) (state_with setting e d p state) (before ++ answers_made setting e d p)
   at_process (Opens i terms) (Down store) at k = quiet i (process_opened terms store) [] (opens i terms store) tt state.lost state.least
   at_process (Opens i terms) (Up own below x waiting) at k = quiet i (Up own below x waiting) [] (later i (Up own below x waiting) k) tt state.lost state.least
   at_process (FailsToOpen i true) (Down store) at k =
@@ -363,29 +388,51 @@ module _ (law : GroundLaw) (setting : Setting) (events : List WorldEvent) (e : �
   at_process (Raises i t floor) (Down store) at k = quiet i (Down _) [] tt tt state.lost state.least
   at_process (Raises i t floor) (Up own below x waiting) at k = quiet i (Up own below x waiting) [] (later i (Up own below x waiting) k) tt state.lost state.least
 
-  still : Honest events (suc e) state
+  still : Honest events (suc e) state (before ++ [])
   still = record {
     raw = h.raw;
     notes = h.notes;
+    owed = all_owed_later events before [] (passes_in h.raw) h.owed;
     processes = λ j. kept_later events e j h.raw h.raw (state.processes j) (grows_none j h.raw) (h.processes j);
     offered = h.offered;
   }
 
-  follows : (d : Action) → slice_get events e ≡ Some (line_event d) → Honest events (suc e) (state_after_action setting e d state)
+  -- an action that is possible, or not
+  either : (can : Bool) (new : State) (made : List Answer) → Honest events (suc e) new (before ++ made) → Honest events (suc e) (cond can new state) (before ++ cond can made [])
+  either true new made there = there
+  either false new made there = still
+
+  follows : (d : Action) → slice_get events e ≡ Some (line_event d) → Honest events (suc e) (state_after_action setting e d state) (before ++ answers_by setting e d state)
   unfolding state_after_action
   follows d at =
-      let i = node_of_action d in
-      let p = state.processes i in
-      cond_both (can_be setting state d) (state_with setting e d p state) state (λ z. Honest events (suc e) z)
-      (λ _. at_process d p at (h.processes i)) (λ _. still)
+      let p = state.processes (node_of_action d) in
+      either (can_be setting state d) (state_with setting e d p state) (answers_made setting e d p) (at_process d p at (h.processes (node_of_action d)))
 
-all_honest : GroundLaw → (setting : Setting) (events : List WorldEvent) (first : ℕ) (history : List Action) (state : State)
-    → ((k m : ℕ) → m ≡ first + k → slice_get events m ≡ slice_get (map line_event history) k) → Honest events first state → (last : ℕ) × Honest events last (state_after setting first history state)
+all_honest : GroundLaw → (setting : Setting) (events : List WorldEvent) (first : ℕ) (history : List Action) (state : State) (before : List Answer)
+    → ((k m : ℕ) → m ≡ first + k → slice_get events m ≡ slice_get (map line_event history) k) → Honest events first state before
+    → (last : ℕ) × Honest events last (state_after setting first history state) (before ++ answers_in setting first history state)
 unfolding state_after
-all_honest law setting events first [] state there h = (first, h)
-all_honest law setting events first (d ∷ history) state there h =
-    let next = follows law setting events first state h d (there 0 first (omega arith)) in
-    all_honest law setting events (suc first) history (state_after_action setting first d state) (λ k m is. there (suc k) m (omega (arith, is))) next
+all_honest law setting events first [] state before there h = (first, subst (λ made. Honest events first state made) (sym (append-nil before)) h)
+all_honest law setting events first (d ∷ history) state before there h =
+    let made = answers_by setting first d state in
+    let new = state_after_action setting first d state in
+    let next = follows law setting events first state before h d (there 0 first (omega arith)) in
+    let rest = all_honest law setting events (suc first) history new (before ++ made) (λ k m is. there (suc k) m (omega (arith, is))) next in
+    (rest.0, subst (λ z. Honest events rest.0 (state_after setting (suc first) history new) z) (append_assoc before made (answers_in setting (suc first) history new)) rest.1)
+
+old_backed : (events : List WorldEvent) (xs : List Sealed) → Each (IsBacked events []) (map (λ (sealed : Sealed). ToPeer sealed) xs)
+old_backed events [] = tt
+old_backed events (x ∷ xs) = (tt, old_backed events xs)
+
+-- at the end of a history
+pub whole_honest : GroundLaw → (setting : Setting) (history : List Action) → (last : ℕ) × Honest (map line_event history) last (state_of setting history) (answers_in setting 0 history (first_state setting))
+whole_honest law setting history =
+    let events = map line_event history in
+    let first : Honest events 0 (first_state setting) [] = record { raw = []; notes = record { begun = λ p. refl; passes = refl }; owed = tt; processes = λ j. tt; offered = old_backed events setting.old } in
+    all_honest law setting events 0 history (first_state setting) [] (λ k m is. ap (slice_get events) (plain k m is)) first
+  where
+    plain : (k m : ℕ) → m ≡ 0 + k → m ≡ k
+    plain k m is = omega (arith, is)
 
 -- ---- the promise
 
@@ -393,10 +440,6 @@ told_among : (events : List WorldEvent) (passes : List Acceptance) (os : List Ou
 told_among events passes [] h = tt
 told_among events passes (ToPeer sealed ∷ os) h = told_among events passes os h.1
 told_among events passes (ToClient answer ∷ os) h = (h.0, told_among events passes os h.1)
-
-old_backed : (events : List WorldEvent) (xs : List Sealed) → Each (IsBacked events []) (map (λ (sealed : Sealed). ToPeer sealed) xs)
-old_backed events [] = tt
-old_backed events (x ∷ xs) = (tt, old_backed events xs)
 
 -- the acceptance under its canonical token
 tokened : (raw notes : List Note) (k : ℕ) (pass : Acceptance) → AreNotes raw notes → slice_get (passes_in raw) k ≡ Some pass → (p : Acceptance) × (slice_get (passes_in notes) k ≡ Some p) × (untokened pass ≡ untokened p)
@@ -436,9 +479,5 @@ belongs setting history raw answer notes b =
 pub answer_truly : GroundLaw → (setting : Setting) (history : List Action) → AnswerTruly setting history (answered_in setting history)
 answer_truly law setting history i answer at ok =
     let events = map line_event history in
-    let first : Honest events 0 (first_state setting) = record { raw = []; notes = record { begun = λ p. refl; passes = refl }; processes = λ j. tt; offered = old_backed events setting.old } in
-    let h = (all_honest law setting events 0 history (first_state setting) (λ k m is. ap (slice_get events) (plain k m is)) first).1 in
+    let h = (whole_honest law setting history).1 in
     belongs setting history h.raw answer h.notes (each_get (ToldBacked events (passes_in h.raw)) (answered_in setting history) i answer (told_among events (passes_in h.raw) (state_of setting history).offered h.offered) at ok)
-  where
-    plain : (k m : ℕ) → m ≡ 0 + k → m ≡ k
-    plain k m is = omega (arith, is)

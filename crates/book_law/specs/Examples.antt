@@ -256,6 +256,11 @@ silver_pass = accepted 2 2 1 0 0 0
 abbrev pub silver_ok : Answer
 silver_ok = told_outcome 2 1 7 (codes "1") (Accepted 0)
 
+-- silver's line comes to node 2, which is no member, and then to the node alone
+abbrev pub among_strangers : List Action
+among_strangers =
+    has_silver ++ Opens 1 silver_alone ∷ Takes 2 silver_line ∷ Takes 1 silver_line ∷ Stops 2 ∷ []
+
 -- a wrong code arrives, and the right one 4 seconds later
 abbrev pub hurries : List Action
 hurries =

@@ -1,3 +1,4 @@
+pub mod Answered
 pub mod Broken
 pub mod Examples
 pub mod Floors
@@ -10,3 +11,5 @@ pub mod Stretches
 pub mod Uses
 pub mod Seeds
 pub mod SeedExamples
+pub mod Writes
+pub mod ActionExamples

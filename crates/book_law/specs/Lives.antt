@@ -486,18 +486,6 @@ pub record IsHistory (setting : Setting) (history : List Action) : Type 0 where
       (blank_opening (made_boot setting) (map (λ (sealed : Sealed). sealed.envelope) setting.old))
   pub genuine : AreGenuine setting 0 history (first_state setting)
 
--- the action is neither a command's write to a row nor an operator's
-abbrev pub LeavesRows : Action → Type 0
-LeavesRows (Unlocks node token) = ⊥
-LeavesRows (OpensGate node token) = ⊥
-LeavesRows (Raises node token floor) = ⊥
-LeavesRows action = Unit {0}
-
--- none of the actions is such a write
-abbrev pub LeaveRows : List Action → Type 0
-LeaveRows [] = Unit {0}
-LeaveRows (action ∷ actions) = LeavesRows action × LeaveRows actions
-
 -- ---- The observations of a history
 
 -- The acceptances that stores wrote, under canonical tokens. Each has the number of the action in which the node took

@@ -27,8 +27,9 @@ ghost use Rattle.vote_core.specs.Cases.{accepted};
 ghost use Rattle.vote_core.specs.declared.message.Message.TheVariants.{Floor};
 ghost use Rattle.vote_core.specs.Safety.{HaveMajority};
 ghost use Rattle.vote_core.specs.Schedule.{is_member, last_boot};
+ghost use Rattle.book_law.specs.Answered.{AnswersAll, EndsProcess, HasYetToOffer, IsAnsweredInAction, IsLost, IsOfferedOrEnds};
 ghost use Rattle.book_law.specs.Broken.{ask_comes, ask_comes_early, equal_seats, forged, forged_denial, forged_in_a_stop, from_another, locks_out, no_row, old_grant, taken, taken_from, taken_later, takes_again, takes_and_enrols, takes_both, tells, tells_in_a_stop, tells_less, to_nobody, two_rows_of_silver, unknown_number};
-ghost use Rattle.book_law.specs.Examples.{alone, among_another, answers_silver, ask_for, drifted, hurries, hurries_unlocked, idle_among_another, idle_use, old_floor, second_reply, silver_ok, silver_pass, silver_row, silver_text, three_uses, two_replies, two_writes, ends_in_the_step, fails_there, fails_twice, first_key, has_silver, late, loses_one, maple, maple_accepted, maple_alone, maple_aside, maple_first, no_failure_there, old_floor_comes, one_row, other_key, pass_at, process_of_1, remade_with, row_from, shut_rows, silver, silver_accepted, silver_alone, silver_first, silver_goes, silver_line, silver_returns, stopped_machine, store_of_1, takes_silver, tells_early, tells_held, terms_of, three, three_with_old, two_rows, under_another_key};
+ghost use Rattle.book_law.specs.Examples.{alone, among_another, among_strangers, answers_silver, ask_for, drifted, hurries, hurries_unlocked, idle_among_another, idle_use, old_floor, second_reply, silver_ok, silver_pass, silver_row, silver_text, three_uses, two_replies, two_writes, ends_in_the_step, fails_there, fails_twice, first_key, has_silver, late, loses_one, maple, maple_accepted, maple_alone, maple_aside, maple_first, no_failure_there, old_floor_comes, one_row, other_key, pass_at, process_of_1, remade_with, row_from, shut_rows, silver, silver_accepted, silver_alone, silver_first, silver_goes, silver_line, silver_returns, stopped_machine, store_of_1, takes_silver, tells_early, tells_held, terms_of, three, three_with_old, two_rows, under_another_key};
 ghost use Rattle.book_law.specs.Floors.{IsTakenInAction, TellsHeld, WasHeld, WasHeldSomewhere};
 ghost use Rattle.book_law.specs.Justified.{IsJustifiedInAction, JustifiesAll, drift_in, drift_of};
 ghost use Rattle.book_law.specs.Lives.{Action, Down, ToClient, ToPeer, Enrols, FailsToOpen, IsHistory, Loses, Offers, Opens, Output, Raises, Remakes, Setting, Stops, StopsIn, Store, Takes, Terms, Unlocks, OpensGate, Up, accepted_in, answered_in, do_fit, floor_in, floor_of, number_to_unlock, process_after, rows_under, seen_in, state_of, store_at, store_in_next_boot, store_raised, store_under, store_unlocked, store_with_rows};
@@ -63,6 +64,10 @@ pub fn books_are_safe()
     // acceptance or an unlocking of the token ends their count.
     ensures spaced { (setting : Setting) (history : List Action) (node token : ℕ) → IsHistory setting history
         → SpacesFailures (results_in setting history node token) }
+    // Each acceptance in a step that its process finished has its `OK`. The process offered the `OK` or still has to,
+    // unless it ended first.
+    ensures answered { (setting : Setting) (history : List Action) → IsHistory setting history
+        → AnswersAll setting history (accepted_in setting history) }
 {
     votes_are_safe();
     rulings_have_grounds();
@@ -413,6 +418,51 @@ pub fn answers_can_be_broken()
 {}
 
 /// Worked cases.
+pub fn answers_are_worked()
+    ensures waits { HasYetToOffer silver_ok (process_of_1 takes_silver) }
+    ensures waits_no_more { HasYetToOffer silver_ok (process_of_1 answers_silver) → ⊥ }
+    ensures lost { IsLost alone (takes_silver ++ Stops 1 ∷ []) silver_ok }
+    ensures not_lost { IsLost alone answers_silver silver_ok → ⊥ }
+    ensures not_lost_once_offered { IsLost alone (answers_silver ++ Stops 1 ∷ []) silver_ok → ⊥ }
+    ensures of_another { IsOfferedOrEnds alone answers_silver (record silver_ok { client = 8 }) → ⊥ }
+    ensures stop { EndsProcess 1 (Some (Stops 1)) }
+    ensures stop_in_a_step { EndsProcess 1 (Some (StopsIn 1 false silver_line)) }
+    ensures stop_elsewhere { EndsProcess 1 (Some (Stops 2)) → ⊥ }
+    ensures stop_in_a_step_elsewhere { EndsProcess 1 (Some (StopsIn 2 false silver_line)) → ⊥ }
+    ensures opening { EndsProcess 1 (Some (Opens 1 silver_alone)) → ⊥ }
+    ensures opened_gate { EndsProcess 1 (Some (OpensGate 1 0)) → ⊥ }
+    ensures loss { EndsProcess 1 (Some (Loses 1)) }
+    ensures loss_elsewhere { EndsProcess 1 (Some (Loses 2)) → ⊥ }
+    ensures making { EndsProcess 1 (Some (Remakes 1 2 [] (λ token. 0))) → ⊥ }
+    // An acceptance written in a stop inside a step has no answer. Every other acceptance has one.
+    ensures of_a_stop { IsAnsweredInAction alone (ends_in_the_step true) silver_pass
+        (Some (StopsIn 1 true silver_line)) }
+    ensures of_a_lost_stop { IsAnsweredInAction alone (ends_in_the_step false) silver_pass
+        (Some (StopsIn 1 false silver_line)) → ⊥ }
+    ensures of_an_offer { IsAnsweredInAction alone answers_silver silver_pass (Some (Offers 1)) → ⊥ }
+    ensures answered { IsAnsweredInAction alone answers_silver silver_pass (Some (Takes 1 silver_line)) }
+    ensures in_another_action { IsAnsweredInAction alone answers_silver (record silver_pass { ended = 3 })
+        (Some (Takes 1 silver_line)) → ⊥ }
+    ensures at_another_node { IsAnsweredInAction alone answers_silver (record silver_pass { node = 2 })
+        (Some (Takes 1 silver_line)) → ⊥ }
+    // Node 2 is no member. Its line came, and the node alone accepted its own.
+    ensures by_another_node { IsAnsweredInAction alone among_strangers (accepted 2 3 2 0 0 0)
+        (Some (Takes 1 silver_line)) → ⊥ }
+    ensures without_a_line { IsAnsweredInAction alone answers_silver (record silver_pass { began = 0 })
+        (Some (Takes 1 silver_line)) → ⊥ }
+    ensures with_another_factor { IsAnsweredInAction alone answers_silver (record silver_pass { hi = 1 })
+        (Some (Takes 1 silver_line)) → ⊥ }
+    // Each acceptance of a list is meant. None ends in an offer, at any place.
+    ensures each { (setting : Setting) (history : List Action) (passes : List Acceptance) (i : ℕ) (pass : Acceptance)
+        → AnswersAll setting history passes → slice_get passes i ≡ Some pass
+        → IsAnsweredInAction setting history pass (slice_get history pass.ended) }
+    ensures first_unanswered { AnswersAll alone answers_silver (record silver_pass { ended = 3 } ∷ silver_pass ∷ [])
+        → ⊥ }
+    ensures second_unanswered { AnswersAll alone answers_silver (silver_pass ∷ record silver_pass { ended = 3 } ∷ [])
+        → ⊥ }
+{}
+
+/// Worked cases.
 pub fn grounds_are_worked()
     ensures drift { drift_of drifted 3 ≡ pos 2 }
     ensures drift_of_another { drift_of drifted 5 ≡ pos 0 }
@@ -443,6 +493,8 @@ pub fn uses_are_worked()
     ensures first { (first_store late 1).content.boot ≡ last_boot - 1 }
     ensures after { store_after alone three_uses (first_store alone 1)
         ≡ record { names = 0 ∷ []; content = record { rows = row_from 31 ∷ []; boot = 5; last = None } } }
+    ensures raised_after_a_process { floor_of (store_after alone (ServesStore silver_alone [] [] [] silver_row.content
+        ∷ Writes (Raises 1 0 9) ∷ []) silver_row) 0 ≡ 9 }
     ensures own { own_process alone 1 0 takes_silver (Down (first_store alone 1)) ≡ process_of_1 takes_silver }
     ensures of_another { own_process alone 2 0 takes_silver (Down (first_store alone 2))
         ≡ Down (first_store alone 2) }
@@ -450,6 +502,7 @@ pub fn uses_are_worked()
     ensures offers_of_another { own_offers alone 2 0 answers_silver (Down (first_store alone 2)) ≡ [] }
     ensures inputs { inputs_at 1 answers_silver ≡ silver_line ∷ [] }
     ensures inputs_of_another { inputs_at 2 answers_silver ≡ [] }
+    ensures inputs_of_a_stop { inputs_at 1 (StopsIn 1 true Tick ∷ Takes 1 silver_line ∷ []) ≡ silver_line ∷ [] }
     ensures named { named_output maple_first (ToPeerOwn (record { sender = 2; receiver = 1; message = Floor 1 4 }))
         ≡ ToPeer old_floor }
     ensures answer_named { named_output maple_first (ToClientOwn silver_ok) ≡ ToClient silver_ok }

@@ -23,6 +23,7 @@ ghost use Rattle.admit_core.specs.Throttle.{SpacesFailures};
 ghost use Rattle.otp_core.specs.Acceptance.{HaveSingleUse, KeepRealTimeOrder};
 ghost use Rattle.vote_core.specs.Safety.{HaveMajority};
 ghost use Rattle.seat_law.specs.Seeds.{AreGivenUp, HaveSingleUseOfSeeds, KeepOrderOfSeeds};
+ghost use Rattle.book_law.specs.Answered.{AnswersAll};
 ghost use Rattle.book_law.specs.Justified.{JustifiesAll};
 ghost use Rattle.book_law.specs.Lives.{Action, IsHistory, Output, Sealed, Setting, Store, Terms, accepted_in, answered_in, floor_in, named_envelope};
 ghost use Rattle.book_law.specs.Promises.{AnswerTruly};
@@ -166,6 +167,9 @@ pub fn unforged_names_are_safe()
     ensures spaced { (names : List (List ℕ)) (setting : Setting) (history : List Action) (node token : ℕ)
         → IsSized names setting → IsUnforgedHistory names setting history
         → SpacesFailures (results_in setting history node token) }
+    // Each acceptance that no stop cut off has its `OK`.
+    ensures answered { (names : List (List ℕ)) (setting : Setting) (history : List Action) → IsSized names setting
+        → IsUnforgedHistory names setting history → AnswersAll setting history (accepted_in setting history) }
 {
     books_are_safe();
     unforged_names_are_genuine();

@@ -6,6 +6,7 @@ ghost use Rattle.cluster_sim.specs.Answered.{IsOk};
 ghost use Rattle.otp_core.specs.Acceptance.{HaveSingleUse, KeepRealTimeOrder};
 ghost use Rattle.seat_law.specs.Seeds.{AreGivenUp, HaveSingleUseOfSeeds, KeepOrderOfSeeds};
 ghost use Rattle.vote_core.specs.Safety.{HaveMajority};
+ghost use Rattle.book_law.specs.Answered.{AnswersAll};
 ghost use Rattle.book_law.specs.Justified.{JustifiesAll};
 ghost use Rattle.book_law.specs.Lives.{Setting, accepted_in, answered_in, floor_in};
 ghost use Rattle.book_law.specs.Promises.{AnswerTruly};
@@ -44,6 +45,10 @@ pub fn unforged_interleavings_are_safe()
     ensures spaced { (names : List (List ℕ)) (setting : Setting) (items : List Item) (node token : ℕ)
         → IsSized names setting → IsUnforgedInterleaving names setting items
         → SpacesFailures (results_in setting (history_of items) node token) }
+    // Each acceptance that no stop cut off has its `OK`.
+    ensures answered { (names : List (List ℕ)) (setting : Setting) (items : List Item) → IsSized names setting
+        → IsUnforgedInterleaving names setting items
+        → AnswersAll setting (history_of items) (accepted_in setting (history_of items)) }
     // Each reply of an item that begins as an `OK` belongs to an acceptance.
     ensures replied { (names : List (List ℕ)) (setting : Setting) (items : List Item) (i node client : ℕ)
         (bytes : List ℕ) → IsSized names setting → IsUnforgedInterleaving names setting items

@@ -17,6 +17,7 @@ ghost use Rattle.seat_law.specs.Seeds.{AreGivenUp, HaveSingleUseOfSeeds, KeepOrd
 ghost use Rattle.seated_store.specs.Seated.{SeatedRecord, seated_held};
 ghost use Rattle.vote_core.specs.Safety.{HaveMajority};
 ghost use Rattle.vote_core.specs.Schedule.{is_member};
+ghost use Rattle.book_law.specs.Answered.{AnswersAll};
 ghost use Rattle.book_law.specs.Justified.{JustifiesAll};
 ghost use Rattle.book_law.specs.Lives.{IsHistory, Setting, Store, Terms, accepted_in, answered_in, floor_in, state_of};
 ghost use Rattle.book_law.specs.Promises.{AnswerTruly};
@@ -112,6 +113,9 @@ pub fn causal_interleavings_are_safe()
         → JustifiesAll setting (history_of items) (accepted_in setting (history_of items)) }
     ensures spaced { (setting : Setting) (items : List Item) (node token : ℕ) → IsCausal setting items
         → SpacesFailures (results_in setting (history_of items) node token) }
+    // Each acceptance that no stop cut off has its `OK`.
+    ensures answered { (setting : Setting) (items : List Item) → IsCausal setting items
+        → AnswersAll setting (history_of items) (accepted_in setting (history_of items)) }
     // Each reply of an item that begins as an `OK` belongs to an acceptance.
     ensures replied { (setting : Setting) (items : List Item) (i node client : ℕ) (bytes : List ℕ)
         → IsCausal setting items

@@ -24,6 +24,7 @@ ghost use Rattle.node_serving.specs.declared.serving.Serving.{Serving};
 ghost use Rattle.oathd_roster.specs.Opened.{HasOpenedNamed};
 ghost use Rattle.store_serving.specs.Served.{HasServedNamed};
 ghost use Rattle.oathd_roster.specs.declared.cluster.NamedCluster.{NamedCluster};
+ghost use Rattle.book_law.specs.Answered.{AnswersAll};
 ghost use Rattle.book_law.specs.Lives.{Setting, Store, Terms, accepted_in, floor_in};
 ghost use Rattle.book_law.specs.Seeds.{AreGreatest, HaveSeedsOnce, UsesGreatest};
 ghost use Rattle.book_law.specs.Uses.{IsSeatedMember, IsTrueReply, Part, StoreUse, first_store};
@@ -241,6 +242,11 @@ pub fn served_names_are_safe<S: Alter + Drop, D: Database<S>, U: Stop>()
         (are : AreAllNamedStores S.Store D.finds U.answers setting names stores) (items : List Item) (node token : ℕ)
         → IsSized names setting → IsOrderOf S.Store D.finds U.answers setting names stores are items
         → SpacesFailures (results_in setting (history_of items) node token) }
+    // Each acceptance that no stop cut off has its `OK`.
+    ensures answered { (setting : Setting) (names : List (List ℕ)) (stores : ℕ → NamedStores U)
+        (are : AreAllNamedStores S.Store D.finds U.answers setting names stores) (items : List Item)
+        → IsSized names setting → IsOrderOf S.Store D.finds U.answers setting names stores are items
+        → AnswersAll setting (history_of items) (accepted_in setting (history_of items)) }
     // Each reply that a member's port recorded, and that begins as an `OK`, belongs to an acceptance.
     ensures replied { (setting : Setting) (names : List (List ℕ)) (stores : ℕ → NamedStores U)
         (are : AreAllNamedStores S.Store D.finds U.answers setting names stores) (items : List Item)

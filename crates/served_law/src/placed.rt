@@ -18,6 +18,7 @@ ghost use Rattle.cluster_sim.specs.Answered.{IsOk};
 ghost use Rattle.otp_core.specs.Acceptance.{HaveSingleUse, KeepRealTimeOrder};
 ghost use Rattle.vote_core.specs.Safety.{HaveMajority};
 ghost use Rattle.vote_core.specs.Schedule.{is_member};
+ghost use Rattle.book_law.specs.Answered.{AnswersAll};
 ghost use Rattle.book_law.specs.Justified.{JustifiesAll};
 ghost use Rattle.book_law.specs.Lives.{Enrols, Setting, Store, Unlocks, accepted_in, floor_in, store_under};
 ghost use Rattle.book_law.specs.Results.{results_in};
@@ -108,6 +109,11 @@ pub fn served_places_are_safe<S: Alter + Drop, D: Database<S>>()
         (are : AreAllStores (placed_runs S.Store D.finds setting) stores) (items : List Item) (node token : ℕ)
         → IsPlacedOrder S.Store D.finds setting stores are items
         → SpacesFailures (results_in setting (history_of items) node token) }
+    // Each acceptance that no stop cut off has its `OK`.
+    ensures answered { (setting : Setting) (stores : ℕ → Stores PlacedRun)
+        (are : AreAllStores (placed_runs S.Store D.finds setting) stores) (items : List Item)
+        → IsPlacedOrder S.Store D.finds setting stores are items
+        → AnswersAll setting (history_of items) (accepted_in setting (history_of items)) }
     // Each reply that a member's port recorded, and that begins as an `OK`, belongs to an acceptance.
     ensures replied { (setting : Setting) (stores : ℕ → Stores PlacedRun)
         (are : AreAllStores (placed_runs S.Store D.finds setting) stores) (items : List Item)

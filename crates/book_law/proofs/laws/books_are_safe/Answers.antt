@@ -1,4 +1,5 @@
 -- The laws below, carried over.
+use Rattle.book_law.proofs.Answered.{answers_all}
 use Rattle.book_law.proofs.Justified.{justifies_all}
 use Rattle.book_law.proofs.Results.{spaced}
 use Rattle.book_law.proofs.Told.{answer_truly}
@@ -37,3 +38,6 @@ returns-clause-justified c =
     justifies_all c.rulings_have_grounds.ensures.grounds
     (record { start = c.gate_keeps_throttle.ensures.start; failed = c.gate_keeps_throttle.ensures.failed; accepted = c.gate_keeps_throttle.ensures.accepted; opens = c.gate_keeps_throttle.ensures.open; waits = c.gate_keeps_throttle.ensures.wait })
     (record { single_use = c.votes_are_safe.ensures.single_use; in_order = c.votes_are_safe.ensures.in_order; majority = c.votes_are_safe.ensures.majority; proposed = c.votes_are_safe.ensures.proposed })
+
+pub returns-clause-answered : goal.returns-clause-answered
+returns-clause-answered c = λ setting history g. answers_all c.rulings_have_grounds.ensures.grounds setting history

@@ -17,6 +17,13 @@ pub returns-clause-after : goal.returns-clause-after
 unfolding raise
 returns-clause-after c = refl
 
+pub returns-clause-raised_after_a_process : goal.returns-clause-raised_after_a_process
+unfolding raise
+returns-clause-raised_after_a_process c = refl
+
+pub returns-clause-inputs_of_a_stop : goal.returns-clause-inputs_of_a_stop
+returns-clause-inputs_of_a_stop c = refl
+
 pub returns-clause-own : goal.returns-clause-own
 returns-clause-own c = sym (process_is_own alone 0 1 takes_silver (first_state alone) refl (tt, (tt, (tt, tt))))
 

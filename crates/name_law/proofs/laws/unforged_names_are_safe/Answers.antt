@@ -18,3 +18,6 @@ returns-clause-justified c = λ names setting history sized h. c.books_are_safe.
 
 pub returns-clause-spaced : goal.returns-clause-spaced
 returns-clause-spaced c = λ names setting history node token sized h. c.books_are_safe.ensures.spaced setting history node token (c.unforged_names_are_genuine.ensures names setting history sized h)
+
+pub returns-clause-answered : goal.returns-clause-answered
+returns-clause-answered c = λ names setting history sized h. c.books_are_safe.ensures.answered setting history (c.unforged_names_are_genuine.ensures names setting history sized h)

@@ -20,6 +20,9 @@ returns-clause-justified c = λ names setting items sized h. c.unforged_names_ar
 pub returns-clause-spaced : goal.returns-clause-spaced
 returns-clause-spaced c = λ names setting items node token sized h. c.unforged_names_are_safe.ensures.spaced names setting _ node token sized (c.unforged_interleavings_are_genuine.ensures names setting items h)
 
+pub returns-clause-answered : goal.returns-clause-answered
+returns-clause-answered c = λ names setting items sized h. c.unforged_names_are_safe.ensures.answered names setting _ sized (c.unforged_interleavings_are_genuine.ensures names setting items h)
+
 pub returns-clause-replied : goal.returns-clause-replied
 returns-clause-replied c = λ names setting items i node client bytes sized h at ok.
     replied setting items i node client bytes h.is (c.unforged_names_are_safe.ensures.told names setting _ sized (c.unforged_interleavings_are_genuine.ensures names setting items h)) at ok

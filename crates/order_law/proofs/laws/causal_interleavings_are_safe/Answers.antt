@@ -20,6 +20,9 @@ returns-clause-justified c = λ setting items h. c.books_are_safe.ensures.justif
 pub returns-clause-spaced : goal.returns-clause-spaced
 returns-clause-spaced c = λ setting items node token h. c.books_are_safe.ensures.spaced setting _ node token (c.causal_interleavings_are_histories.ensures setting items h)
 
+pub returns-clause-answered : goal.returns-clause-answered
+returns-clause-answered c = λ setting items h. c.books_are_safe.ensures.answered setting _ (c.causal_interleavings_are_histories.ensures setting items h)
+
 pub returns-clause-replied : goal.returns-clause-replied
 returns-clause-replied c = λ setting items i node client bytes h at ok.
     replied setting items i node client bytes h.is (c.books_are_safe.ensures.told setting _ (c.causal_interleavings_are_histories.ensures setting items h)) at ok

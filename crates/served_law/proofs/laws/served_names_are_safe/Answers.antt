@@ -17,6 +17,9 @@ returns-clause-justified g c = λ setting names stores are items sized h. c.unfo
 pub returns-clause-spaced : goal.returns-clause-spaced
 returns-clause-spaced g c = λ setting names stores are items node token sized h. c.unforged_interleavings_are_safe.ensures.spaced names setting items node token sized (unforged g.S.Store g.D.Database.finds g.U.Stop.answers setting names stores are items h)
 
+pub returns-clause-answered : goal.returns-clause-answered
+returns-clause-answered g c = λ setting names stores are items sized h. c.unforged_interleavings_are_safe.ensures.answered names setting items sized (unforged g.S.Store g.D.Database.finds g.U.Stop.answers setting names stores are items h)
+
 pub returns-clause-replied : goal.returns-clause-replied
 returns-clause-replied g c = λ setting names stores are items i node client bytes sized h at ok.
     c.unforged_interleavings_are_safe.ensures.replied names setting items i node client bytes sized (unforged g.S.Store g.D.Database.finds g.U.Stop.answers setting names stores are items h) at ok

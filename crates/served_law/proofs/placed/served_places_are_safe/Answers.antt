@@ -17,6 +17,9 @@ returns-clause-justified g c = λ setting stores are items h. c.causal_interleav
 pub returns-clause-spaced : goal.returns-clause-spaced
 returns-clause-spaced g c = λ setting stores are items node token h. c.causal_interleavings_are_safe.ensures.spaced setting items node token (places_causal g.S.Store g.D.Database.finds setting stores are items h)
 
+pub returns-clause-answered : goal.returns-clause-answered
+returns-clause-answered g c = λ setting stores are items h. c.causal_interleavings_are_safe.ensures.answered setting items (places_causal g.S.Store g.D.Database.finds setting stores are items h)
+
 pub returns-clause-replied : goal.returns-clause-replied
 returns-clause-replied g c = λ setting stores are items i node client bytes h at ok.
     c.causal_interleavings_are_safe.ensures.replied setting items i node client bytes (places_causal g.S.Store g.D.Database.finds setting stores are items h) at ok

@@ -1,0 +1,10 @@
+pub mod Bytes
+pub mod Follow
+pub mod Genuine
+pub mod Ran
+pub mod Runs
+pub mod Seats
+pub mod SingleNode
+pub mod Steps
+pub mod Sweeps
+pub mod Enrolments

@@ -1,0 +1,7 @@
+pub mod Broken
+pub mod Bytes
+pub mod Examples
+pub mod SingleNode
+pub mod Steady
+pub mod Sweeps
+pub mod Worlds
