@@ -111,6 +111,9 @@ pub fn boots_can_be_broken()
     ensures third_lower { AreMarked (boot_at 9000000 10 ∷ boot_at 15000000 10 ∷ boot_at 14999999 10 ∷ []) → ⊥ }
     ensures third_not_handed { AreHandedOn (boot_at 9000000 10 ∷ boot_at 15000000 10 ∷ boot_at 14999999 10 ∷ [])
         → ⊥ }
+    // the first one admits nothing, so that it is marked in all others
+    ensures second_and_third { AreMarked (boot_at 15000000 10 ∷ boot_at 9000000 10 ∷ boot_at 14999999 10 ∷ [])
+        → ⊥ }
     // The latest moment is that at the end of the boot.
     ensures begun { window_run (window_at 9000000 []) (arrival_at 10 ∷ [])
         ≡ window_at 9000000 (15000000 ∷ []) }
