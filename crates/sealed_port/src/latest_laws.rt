@@ -38,7 +38,7 @@ pub fn nothing_is_opened_twice_over_boots()
         IsDistinct is_same_request (aside_over lives) }
 {}
 
-/// Worked cases. The latest moment of a gate, and incarnations that begin too low.
+/// Worked cases. The latest moment of a gate.
 pub fn latest_moments_are_worked()
     ensures none { latest_in (record first_gate { clients = [] }) ≡ 0 }
     ensures mark { latest_in (gate_at (window_at 5 []) []) ≡ 5 }
@@ -50,6 +50,10 @@ pub fn latest_moments_are_worked()
     ensures both { latest_in (record later_gate { operators = operator_at 9 (window_at 1000001 []) ∷ [] }) ≡ 1000001 }
     ensures more_of_clients { latest_in (record later_gate { operators = operator_at 9 (window_at 6 []) ∷ [] })
         ≡ 1000000 }
+{}
+
+/// Counterexamples: incarnations that begin at the latest moments of the earlier ones, and one that begins too low.
+pub fn marks_can_be_broken()
     ensures marked { AreGatesMarked (still_life 5 ∷ still_life 5 ∷ still_life 6 ∷ []) }
     ensures low_mark { AreGatesMarked (still_life 5 ∷ still_life 4 ∷ []) → ⊥ }
     ensures low_mark_of_the_third { AreGatesMarked (still_life 5 ∷ still_life 7 ∷ still_life 6 ∷ []) → ⊥ }

@@ -6,7 +6,7 @@ use Rattle.sealed_port.specs.RequestExamples.{operator_at, still_operator_life}
 use Rattle.sealed_port.specs.Runs.{gate_run}
 use Rattle.sealed_port.specs.declared.client.Client.{Client}
 use Rattle.sealed_port.specs.declared.operator.Operator.{Operator}
-use Rattle.sealed_port.proofs.latest_laws.latest_moments_are_worked.Goals as goal
+use Rattle.sealed_port.proofs.latest_laws.marks_can_be_broken.Goals as goal
 
 abbrev present : {A : Type 0} → A → Option A
 present x = Some x
