@@ -15,6 +15,8 @@ impl<P: Gatekeeper + Drop> Gatekeeper for BundlePort<P> {
 
     ghost heard = { λ bundles. P.heard bundles.port };
 
+    ghost opened = { λ bundles. P.opened bundles.port };
+
     ghost differing = { λ bundles. P.differing bundles.port };
 
     ghost aside = { λ bundles. P.aside bundles.port };
@@ -41,6 +43,10 @@ impl<P: Gatekeeper + Drop> Gatekeeper for BundlePort<P> {
 
     fn heard(&self) -> [u64; PLACES] {
         self.port.heard()
+    }
+
+    fn opened(&self) -> u64 {
+        self.port.opened()
     }
 
     fn take_differing(&mut self) -> [bool; PLACES] {

@@ -229,6 +229,8 @@ impl<P: Gatekeeper + Drop, N: TimeSource> Gatekeeper for CountPort<'_, P, N> {
 
     ghost heard = { λ counted. P.heard counted.port };
 
+    ghost opened = { λ counted. P.opened counted.port };
+
     ghost differing = { λ counted. P.differing counted.port };
 
     ghost aside = { λ counted. P.aside counted.port };
@@ -258,6 +260,10 @@ impl<P: Gatekeeper + Drop, N: TimeSource> Gatekeeper for CountPort<'_, P, N> {
 
     fn heard(&self) -> [u64; PLACES] {
         self.port.heard()
+    }
+
+    fn opened(&self) -> u64 {
+        self.port.opened()
     }
 
     fn take_differing(&mut self) -> [bool; PLACES] {

@@ -18,6 +18,8 @@ impl<P: Gatekeeper + Drop> Gatekeeper for FloorPort<'_, P> {
 
     ghost heard = { λ floors. P.heard floors.port };
 
+    ghost opened = { λ floors. P.opened floors.port };
+
     ghost differing = { λ floors. P.differing floors.port };
 
     ghost aside = { λ floors. P.aside floors.port };
@@ -44,6 +46,10 @@ impl<P: Gatekeeper + Drop> Gatekeeper for FloorPort<'_, P> {
 
     fn heard(&self) -> [u64; PLACES] {
         self.port.heard()
+    }
+
+    fn opened(&self) -> u64 {
+        self.port.opened()
     }
 
     fn take_differing(&mut self) -> [bool; PLACES] {

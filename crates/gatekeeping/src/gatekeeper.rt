@@ -58,6 +58,10 @@ pub trait Gatekeeper: Port {
     // The greatest boot in which each member was heard, from member 0 to 9, or 0. By default the port reads no boots.
     ghost heard: { Self → List ℕ } = { λ _. nobody_heard };
 
+    // The latest moment of all sealed lines and requests that it opened, or one after it. By default the port opens
+    // nothing.
+    ghost opened: { Self → ℕ } = { λ _. 0 };
+
     // Whether it passed over a datagram of each member that it can't read since they were last taken, from member 0 to
     // 9. By default the port reads everything.
     ghost differing: { Self → List Bool } = { λ _. nobody };
@@ -110,6 +114,10 @@ pub trait Gatekeeper: Port {
     /// Returns the greatest boot in which each member was heard, from member 0 to 9, or 0.
     fn heard(&self) -> [u64; PLACES]
         ensures { result ≡ heard self.now };
+
+    /// Returns the latest moment of all sealed lines and requests that the port opened, or one after it.
+    fn opened(&self) -> u64
+        ensures { result ≡ opened self.now };
 
     /// Returns whether a datagram that the port can't read came from each member since the last call, from member 0
     /// to 9.
@@ -199,6 +207,10 @@ impl Gatekeeper for ListPort<'_> {
         [0; PLACES]
     }
 
+    fn opened(&self) -> u64 {
+        0
+    }
+
     fn take_differing(&mut self) -> [bool; PLACES] {
         [false; PLACES]
     }
@@ -233,6 +245,10 @@ impl<R: TimeSource + Drop> Gatekeeper for UdpPort<R> {
         [0; PLACES]
     }
 
+    fn opened(&self) -> u64 {
+        0
+    }
+
     fn take_differing(&mut self) -> [bool; PLACES] {
         [false; PLACES]
     }
@@ -247,10 +263,13 @@ impl<R: TimeSource + Drop> Gatekeeper for UdpPort<R> {
 }
 
 impl<P: Port + Drop, C: Clock + Drop> Gatekeeper for SealedPort<P, C> {
+    ghost use Rattle.sealed_port.specs.Latest.{latest_in};
     ghost use Rattle.sealed_port.specs.Port.{offer_of};
     ghost use Rattle.sealed_port.specs.Requests.{reported as sealed_report};
 
     ghost unopened = { λ port. port.unopened };
+
+    ghost opened = { λ port. latest_in port.gate };
 
     ghost aside = { λ port. port.gate.aside };
 
@@ -276,6 +295,10 @@ impl<P: Port + Drop, C: Clock + Drop> Gatekeeper for SealedPort<P, C> {
 
     fn heard(&self) -> [u64; PLACES] {
         [0; PLACES]
+    }
+
+    fn opened(&self) -> u64 {
+        SealedPort::latest(self)
     }
 
     fn take_differing(&mut self) -> [bool; PLACES] {

@@ -2,8 +2,8 @@
 //! its socket have in common.
 //!
 //! A [`Gatekeeper`] is a port that may pass over datagrams. It tells how many it didn't open, which members it can't
-//! read, which of them went back to an old store and in which boots they were heard, and hands up the requests of
-//! operators.
+//! read, which of them went back to an old store and in which boots they were heard. It tells the latest moment that it
+//! opened, and hands up the requests of operators.
 #![tactic(auto)]
 
 mod commits;

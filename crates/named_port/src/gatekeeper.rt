@@ -15,6 +15,8 @@ impl<P: Gatekeeper + Drop> Gatekeeper for NamedPort<'_, P> {
 
     ghost heard = { λ named. named.translator.heard };
 
+    ghost opened = { λ named. P.opened named.port };
+
     ghost differing = { λ named. named.translator.differing };
 
     ghost aside = { λ named. P.aside named.port };
@@ -41,6 +43,10 @@ impl<P: Gatekeeper + Drop> Gatekeeper for NamedPort<'_, P> {
 
     fn heard(&self) -> [u64; PLACES] {
         NamedPort::heard(self)
+    }
+
+    fn opened(&self) -> u64 {
+        self.port.opened()
     }
 
     fn take_differing(&mut self) -> [bool; PLACES] {

@@ -235,6 +235,8 @@ impl<P: Gatekeeper + Drop, W: Write + Drop> Gatekeeper for LogPort<'_, P, W> {
 
     ghost heard = { λ logged. P.heard logged.port };
 
+    ghost opened = { λ logged. P.opened logged.port };
+
     ghost differing = { λ logged. P.differing logged.port };
 
     ghost aside = { λ logged. P.aside logged.port };
@@ -261,6 +263,10 @@ impl<P: Gatekeeper + Drop, W: Write + Drop> Gatekeeper for LogPort<'_, P, W> {
 
     fn heard(&self) -> [u64; PLACES] {
         self.port.heard()
+    }
+
+    fn opened(&self) -> u64 {
+        self.port.opened()
     }
 
     fn take_differing(&mut self) -> [bool; PLACES] {

@@ -88,12 +88,16 @@ impl<S: FloorStore> Attend<S> for Never {
 
 /// What is asked after each batch of a served node, the number of turns that were left at the last question, and of the
 /// members, from member 0 to 9, which went back until the turns ended, and the greatest boot in which each was heard.
+///
+/// `opened` is the latest moment of the sealed lines and requests that the port opened, or one after it. It is None
+/// until the turns ended.
 #[derive(Drop)]
 pub struct Attended<U> {
     pub attendant: U,
     pub left: u64,
     pub gone_back: [bool; PLACES],
     pub heard: [u64; PLACES],
+    pub opened: Option<u64>,
 }
 
 impl<U> Attended<U> {
@@ -106,6 +110,7 @@ impl<U> Attended<U> {
             left: 0,
             gone_back: [false; PLACES],
             heard: [0; PLACES],
+            opened: None,
         }
     }
 }
@@ -124,6 +129,7 @@ impl<S: FloorStore, P: Gatekeeper, U: Attend<S>> Until<S, P> for Attended<U> {
             self.gone_back = gone_back;
             let heard = port.heard();
             self.heard = heard;
+            self.opened = Some(port.opened());
         }
         ends
     }

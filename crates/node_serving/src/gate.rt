@@ -1,7 +1,7 @@
 //! The lines of clients that a node takes, and the gate for sealed ones.
 
 ghost use Rattle.std.specs.Prelude.{◌≡◌, ◌≤◌, ◌<◌, ◌^◌, IfErr, IfOk};
-ghost use Rattle.node_serving.specs.Front.{IsFrontFault, IsFrontOf};
+ghost use Rattle.node_serving.specs.Front.{IsFirstMark, IsFrontFault, IsFrontOf};
 ghost use Rattle.node_serving.specs.Gate.{IsSaid, clients_from, gate_from, operators_from};
 ghost use Rattle.node_serving.specs.Serving.{AreAgain};
 
@@ -9,7 +9,7 @@ use clients_file::{ClientEntry, Clients, OperatorEntry};
 use datagram_port::Clock;
 use oathd_database::Fault;
 use otp_core::MOMENTS_END;
-use replay_window::Ahead;
+use replay_window::{Ahead, Window, last_at};
 use sealed_port::{Client, Failures, Gate, Operator};
 use sealed_wire::ClientKey;
 use std::alloc::{AllocError, Global};
@@ -78,40 +78,38 @@ impl ClientLines {
     }
 }
 
-/// Returns the clients of a process that begins at the second `start` of the clock.
+/// Returns the clients, whose windows begin at `mark`.
 fn clients_from(
     alloc: Global,
     entries: Vec<ClientEntry>,
     ahead: Ahead,
-    start: u64,
+    mark: u64,
 ) -> Result<Vec<Client>, Fault>
-    requires { start < 2 ^ 40 }
-    ensures clients { IfOk result (λ clients. clients.items ≡ clients_from ahead start entries.items) }
+    ensures clients { IfOk result (λ clients. clients.items ≡ clients_from ahead mark entries.items) }
     ensures fault { IfErr result (λ fault. fault ≡ Fault.Memory) }
 {
     entries
         .into_iter()
-        .map(|entry| Client::new(entry.number, entry.key, ahead, start))
+        .map(|entry| Client::new(entry.number, entry.key, Window::above(mark, ahead)))
         .collect(alloc)
         .map_err(|_| Fault::Memory)
 }
 
-/// Returns the operators of a process that begins at the second `start` of the clock.
+/// Returns the operators, whose windows begin at `mark`.
 fn operators_from(
     alloc: Global,
     entries: Vec<OperatorEntry>,
     ahead: Ahead,
-    start: u64,
+    mark: u64,
 ) -> Result<Vec<Operator>, Fault>
-    requires { start < 2 ^ 40 }
-    ensures operators { IfOk result (λ operators. operators.items ≡ operators_from ahead start entries.items) }
+    ensures operators { IfOk result (λ operators. operators.items ≡ operators_from ahead mark entries.items) }
     ensures fault { IfErr result (λ fault. fault ≡ Fault.Memory) }
 {
     entries
         .into_iter()
         .map(|entry| {
             Operator::new(
-                Client::new(entry.number, entry.key, ahead, start),
+                Client::new(entry.number, entry.key, Window::above(mark, ahead)),
                 entry.right,
             )
         })
@@ -119,17 +117,21 @@ fn operators_from(
         .map_err(|_| Fault::Memory)
 }
 
-/// Returns the gate before the node `node`, for a process that begins at the second `start` of the clock.
-fn gate_from(alloc: Global, node: u8, clients: Clients, start: u64) -> Result<Gate, Fault>
-    requires start { start < 2 ^ 40 }
-    requires ahead { (1 ≤ clients.ahead) × (clients.ahead ≤ 60) }
-    ensures gate { IfOk result (λ gate. gate ≡ gate_from node start clients) }
+/// Returns the gate before the node `node`, whose windows begin at `mark`.
+fn gate_from(
+    alloc: Global,
+    node: u8,
+    clients: Clients,
+    ahead: Ahead,
+    mark: u64,
+) -> Result<Gate, Fault>
+    requires { ahead ≡ clients.ahead }
+    ensures gate { IfOk result (λ gate. gate ≡ gate_from node mark clients) }
     ensures fault { IfErr result (λ fault. fault ≡ Fault.Memory) }
 {
-    let ahead = Ahead::new(clients.ahead).unwrap();
-    let known = clients_from(alloc, clients.clients, ahead, start)?;
+    let known = clients_from(alloc, clients.clients, ahead, mark)?;
     let failures = Failures::new(clients.failures);
-    let operators = operators_from(alloc, clients.operators, ahead, start)?;
+    let operators = operators_from(alloc, clients.operators, ahead, mark)?;
     Ok(Gate::new(node, known, operators, clients.plain, failures))
 }
 
@@ -155,27 +157,44 @@ fn start_second<N: TimeSource>(outside: &N) -> Result<u64, Fault>
     }
 }
 
+/// Returns the mark at which the windows of a gate begin: `opened`, or the last moment that may be named now if None.
+fn first_mark<N: TimeSource>(opened: Option<u64>, ahead: Ahead, outside: &N) -> Result<u64, Fault>
+    ensures mark { IfOk result (IsFirstMark opened ahead) }
+    ensures fault { IfErr result (λ fault. fault ≡ Fault.NoClock) }
+{
+    match opened {
+        Some(latest) => Ok(latest),
+        None => Ok(last_at(start_second(outside)?, ahead)),
+    }
+}
+
 /// Returns what stands between the socket of the node `node` and its clients, from now on.
 ///
+/// `opened` is the latest moment of the sealed lines and requests that earlier gates of the process opened, or one
+/// after it. None says that nobody knows what was opened before, as at the start of a process. The gate then opens
+/// nothing for as long as a moment may be ahead of the clock.
+///
 /// # Errors
-/// - Returns `NoClock` if there is a clients file and the clock tells no time.
+/// - Returns `NoClock` if there is a clients file, `opened` is None and the clock tells no time.
 /// - Returns `Memory` if the allocator refuses the memory for the clients.
 pub fn front_of<N: TimeSource>(
     alloc: Global,
     node: u8,
     lines: ClientLines,
+    opened: Option<u64>,
     outside: &N,
 ) -> Result<Front, Fault>
     requires said { IsSaid lines }
-    ensures front { IfOk result (IsFrontOf node lines) }
+    ensures front { IfOk result (IsFrontOf node opened lines) }
     ensures fault { IfErr result IsFrontFault }
 {
     match lines {
         ClientLines::Anybody => Ok(Front::Anybody),
         ClientLines::ThisMachine => Ok(Front::ThisMachine),
         ClientLines::Of(clients) => {
-            let start = start_second(outside)?;
-            Ok(Front::Gate(gate_from(alloc, node, clients, start)?))
+            let ahead = Ahead::new(clients.ahead).unwrap();
+            let mark = first_mark(opened, ahead, outside)?;
+            Ok(Front::Gate(gate_from(alloc, node, clients, ahead, mark)?))
         }
     }
 }

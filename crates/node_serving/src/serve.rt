@@ -132,22 +132,27 @@ pub fn socket_at<N: Net>(net: &N, address: SocketAddrV4) -> Result<UdpSocket, Fa
 
 /// A UDP socket that is bound once, and kept while one node after another is served over it. With it is kept of the
 /// members, from member 0 to 9, which went back meanwhile, and the greatest boot in which each was heard, or 0.
+///
+/// `opened` is the latest moment of the sealed lines and requests that the last node opened, or one after it. It is
+/// None if nobody knows, as before the first node.
 #[derive(Drop)]
 pub struct KeptSocket {
     socket: Option<UdpSocket>,
     pub gone_back: [bool; PLACES],
     pub heard: [u64; PLACES],
+    pub opened: Option<u64>,
 }
 
 impl KeptSocket {
-    /// Returns a socket that is not bound yet. No member went back, and none was heard.
+    /// Returns a socket that is not bound yet. No member went back, and none was heard. Nobody knows what was opened.
     pub fn new() -> Self
-        ensures { (result.gone_back ≡ nobody) × (result.heard ≡ nobody_heard) }
+        ensures { (result.gone_back ≡ nobody) × (result.heard ≡ nobody_heard) × (result.opened ≡ None) }
     {
         KeptSocket {
             socket: None,
             gone_back: [false; PLACES],
             heard: [0; PLACES],
+            opened: None,
         }
     }
 
@@ -159,7 +164,8 @@ impl KeptSocket {
     /// - Returns `Socket` if there is no other handle, or its mode cannot be set.
     pub fn handle<N: Net>(&mut self, net: &N, address: SocketAddrV4) -> Result<UdpSocket, Fault>
         ensures fault { IfErr result (λ fault. fault ≡ Fault.Socket) }
-        ensures same { (self.new.gone_back ≡ self.old.gone_back) × (self.new.heard ≡ self.old.heard) }
+        ensures same { (self.new.gone_back ≡ self.old.gone_back) × (self.new.heard ≡ self.old.heard)
+            × (self.new.opened ≡ self.old.opened) }
     {
         let socket = match self.socket.take() {
             Some(socket) => socket,

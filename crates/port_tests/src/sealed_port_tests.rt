@@ -3,7 +3,8 @@
 use crate::entries::is_offer;
 use arrayvec::ArrayVec;
 use datagram_port::{Coming, ListClock, ListPort, Port, Received, Sender};
-use replay_window::Ahead;
+use gatekeeping::Gatekeeper;
+use replay_window::{Ahead, Window};
 use sealed_port::{Client, Failures, Gate, Operator, SealedPort, Unopened};
 use sealed_wire::{ClientKey, Head, Kind, MAX_SEALED_LEN, Right, TAG_LEN, open_report, seal};
 use std::alloc::Global;
@@ -28,9 +29,14 @@ const ANSWER: [u8; 54] = [
 
 /// The gate of node 2, with client 258 and a process that began at 0. `most` limits the failures of a minute.
 fn gate(alloc: Global, most: Option<u64>) -> Result<Gate, Fail> {
+    gate_with(alloc, Window::new(0, Ahead::default()), most)
+}
+
+/// The same with a window.
+fn gate_with(alloc: Global, window: Window, most: Option<u64>) -> Result<Gate, Fail> {
     let key = ClientKey::new(&[0; 32]).ok_or("a key")?;
     let mut clients = Vec::new(alloc);
-    clients.push(Client::new(258, key, Ahead::default(), 0))?;
+    clients.push(Client::new(258, key, window))?;
     let mut plain = Vec::new(alloc);
     plain.push(0x7f00_0001)?;
     Ok(Gate::new(2, clients, Vec::new(alloc), plain, Failures::new(most)))
@@ -120,6 +126,28 @@ fn receives_a_flood_as_one_quiet_turn(rt: HostRuntime) -> Result<(), Fail> {
     assert!(rt; are(port.take_unopened(), [299, 0, 0, 0, 0, 0]));
     assert!(rt; are(port.take_unopened(), [0, 0, 0, 0, 0, 0]));
     Ok(())
+}
+
+/// A port tells the moment of the line that it opened. A port that begins there passes over a copy of the line, and one
+/// that begins a microsecond before hands it in.
+#[test]
+fn tells_its_latest_moment(rt: HostRuntime) -> Result<(), Fail> {
+    let comings = [from(7, &LINE)];
+    let mut first = port(rt.alloc(), &comings, &[100])?;
+    assert!(rt; first.opened() == 2_000_000);
+    let mut buffer = [0; 512];
+    let received = first.receive(&mut buffer);
+    assert!(rt; is_line(received, &buffer));
+    let latest = first.opened();
+    assert!(rt; latest == 100_000_000);
+    assert!(rt; !opens_above(rt.alloc(), latest)? && opens_above(rt.alloc(), latest - 1)?);
+    Ok(())
+}
+
+/// Returns whether a gate that begins at a mark opens the line.
+fn opens_above(alloc: Global, mark: u64) -> Result<bool, Fail> {
+    let gate = gate_with(alloc, Window::above(mark, Ahead::default()), None)?;
+    Ok(gate.ruling(Some(100), &LINE).is_ok())
 }
 
 /// A poll passes over a copy of a line, and hands in the member's datagram and the plain line after it.
@@ -260,7 +288,7 @@ const REPORT: [u8; 63] = [
 /// The gate of node 2, with operator 258 and a process that began at 0.
 fn operators_gate(alloc: Global) -> Result<Gate, Fail> {
     let key = ClientKey::new(&[0; 32]).ok_or("a key")?;
-    let holder = Client::new(258, key, Ahead::default(), 0);
+    let holder = Client::new(258, key, Window::new(0, Ahead::default()));
     let mut operators = Vec::new(alloc);
     operators.push(Operator::new(holder, Right::Operator))?;
     let (clients, plain) = (Vec::new(alloc), Vec::new(alloc));

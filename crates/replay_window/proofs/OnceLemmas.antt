@@ -1,13 +1,14 @@
 -- What a window admitted stays below its mark or among what it saw, and so is not admitted again.
 use Rattle.std.proofs.Common.{◌≡◌, ℕ, ◌+◌, ◌*◌, ◌<◌, ◌≤◌, ◌^◌, Bool, true, false, cond, eqb, leb, ltb, max, List, [], ◌∷◌, ◌++◌, length, take, drop, Some, None, refl, sym, ap, subst, ◌∙◌, arith, inl, inr}
 use Rattle.std.specs.Prelude.{◌⊎◌, ◌&&◌, ◌||◌, not, slice_index}
-use Rattle.std.specs.List.{AllByRecursion, IsDistinct, insert, list_any}
+use Rattle.std.specs.List.{AllByRecursion, IsDistinct, fold, insert, list_any}
 use Rattle.std.specs.Option.{unwrap_or}
 use Rattle.std.proofs.lemmas.Bool.{eqb-true, eqb-false, ltb-true, le-ltb, leb-true, and_parts, ne_eqb}
 use Rattle.std.proofs.Math.Nat.{le_trans}
 use Rattle.std.proofs.lemmas.List.{take-append-drop}
 use Rattle.std.proofs.lemmas.List.Folds.{list_any-append}
-use Rattle.replay_window.specs.Window.{WindowRecord, behind, is_fresh, is_new, is_timely, last_at, place_of, with_moment, with_seen}
+use Rattle.replay_window.specs.Window.{WindowRecord, behind, is_fresh, is_new, is_timely, last_at, latest_of, place_of, window_after, with_moment, with_seen}
+use Rattle.replay_window.specs.Boots.{AreHandedOn, AreMarked, Boot, IsMarkedIn, admitted_over, window_run}
 use Rattle.replay_window.specs.Lives.{AreInOrder, Arrival, Life, admitted, admitted_in, window_of}
 
 -- ---- booleans
@@ -237,6 +238,103 @@ lives_law (life ∷ lives) h =
     distinct_append (admitted (window_of life) life.arrivals) (admitted_in lives)
     (once_law (window_of life) life.arrivals) (lives_law lives h.1)
     (apart_from_lives life.ahead (window_of life) life.arrivals lives refl h.0)
+
+-- ---- the latest moment
+
+-- the mark is at most the latest moment
+pub from_low : (low : ℕ) (seen : List ℕ) → low ≤ fold max low seen
+from_low low [] = omega arith
+from_low low (m ∷ seen) = let rest = from_low (max low m) seen in omega (arith, rest)
+
+-- so is each kept moment
+among_seen : (low x : ℕ) (seen : List ℕ) → list_any (eqb x) seen ≡ true → x ≤ fold max low seen
+among_seen low x [] has = absurd cc
+among_seen low x (m ∷ seen) has = elim (or_cases (eqb x m) (list_any (eqb x) seen) has) [
+  | inl is ↦ let e : x ≡ m = eqb-true x m is in let rest = from_low (max low m) seen in omega (arith, rest)
+  | inr later ↦ among_seen (max low m) x seen later
+]
+
+-- what is covered is at most the latest moment
+pub covered_is_early : (window : WindowRecord) (x : ℕ) → IsCovered window x → x ≤ latest_of window
+covered_is_early window x (inl le) = let rest = from_low window.low window.seen in omega (arith, rest)
+covered_is_early window x (inr has) = among_seen window.low x window.seen has
+
+-- what is covered stays covered over an arrival, and over all of them
+covered_after : (b : Bool) (window : WindowRecord) (m x : ℕ) → IsCovered window x → IsCovered (cond b (with_seen window m) window) x
+covered_after true window m x h = stays_covered window m x h
+covered_after false window m x h = h
+
+covered_run : (window : WindowRecord) (arrivals : List Arrival) (x : ℕ) → IsCovered window x → IsCovered (window_run window arrivals) x
+covered_run window [] x h = h
+covered_run window (a ∷ arrivals) x h =
+    covered_run (window_after window a.now a.moment) arrivals x (covered_after (is_fresh window a.now a.moment) window a.moment x h)
+
+pub mark_law : (window : WindowRecord) (arrivals : List Arrival) → window.low ≤ latest_of (window_run window arrivals)
+mark_law window arrivals = covered_is_early (window_run window arrivals) window.low (covered_run window arrivals window.low (inl (omega arith)))
+
+pub latest_law : (window : WindowRecord) (arrivals : List Arrival)
+    → AllByRecursion (λ moment. moment ≤ latest_of (window_run window arrivals)) (admitted window arrivals)
+latest_law window [] = tt
+latest_law window (a ∷ arrivals) = go (is_fresh window a.now a.moment) (latest_law (with_seen window a.moment) arrivals) (latest_law window arrivals)
+  where
+    go : (b : Bool)
+        → AllByRecursion (λ moment. moment ≤ latest_of (window_run (with_seen window a.moment) arrivals)) (admitted (with_seen window a.moment) arrivals)
+        → AllByRecursion (λ moment. moment ≤ latest_of (window_run window arrivals)) (admitted window arrivals)
+        → AllByRecursion (λ moment. moment ≤ latest_of (window_run (cond b (with_seen window a.moment) window) arrivals))
+        (cond b (a.moment ∷ admitted (with_seen window a.moment) arrivals) (admitted window arrivals))
+    go true fresh stale = (
+      covered_is_early (window_run (with_seen window a.moment) arrivals) a.moment
+          (covered_run (with_seen window a.moment) arrivals a.moment (covers_itself window a.moment)),
+      fresh,
+    )
+    go false fresh stale = stale
+
+-- ---- boots
+
+apart_in_boots : (x : ℕ) (boots : List Boot) → AllByRecursion (λ later. x ≤ later.window.low) boots → AllByRecursion (λ y. eqb x y ≡ false) (admitted_over boots)
+apart_in_boots x [] h = tt
+apart_in_boots x (boot ∷ boots) h =
+    all_append (λ y. eqb x y ≡ false) (admitted boot.window boot.arrivals) (admitted_over boots)
+    (all_of (λ y. boot.window.low < y) (λ y. eqb x y ≡ false) (λ y above. ne_eqb x y (λ e. absurd (omega (arith, h.0)))) (admitted boot.window boot.arrivals)
+    (above_law boot.window boot.arrivals))
+    (apart_in_boots x boots h.1)
+
+apart_from_boots : (moments : List ℕ) (boots : List Boot) → AllByRecursion (λ later. AllByRecursion (λ moment. moment ≤ later.window.low) moments) boots
+    → AllByRecursion (λ x. AllByRecursion (λ y. eqb x y ≡ false) (admitted_over boots)) moments
+apart_from_boots [] boots h = tt
+apart_from_boots (x ∷ moments) boots h = (
+  apart_in_boots x boots (all_of (λ later. AllByRecursion (λ moment. moment ≤ later.window.low) (x ∷ moments)) (λ later. x ≤ later.window.low) (λ later both. both.0) boots h),
+  apart_from_boots moments boots
+      (all_of (λ later. AllByRecursion (λ moment. moment ≤ later.window.low) (x ∷ moments)) (λ later. AllByRecursion (λ moment. moment ≤ later.window.low) moments)
+      (λ later both. both.1) boots h),
+)
+
+pub boots_law : (boots : List Boot) → AreMarked boots → IsDistinct eqb (admitted_over boots)
+unfolding IsDistinct
+boots_law [] h = tt
+boots_law (boot ∷ boots) h =
+    distinct_append (admitted boot.window boot.arrivals) (admitted_over boots)
+    (once_law boot.window boot.arrivals) (boots_law boots h.1)
+    (apart_from_boots (admitted boot.window boot.arrivals) boots h.0)
+
+-- what is at most the first mark of a boot is at most that of each later one
+below_all : (x : ℕ) (boot : Boot) (boots : List Boot) → x ≤ boot.window.low → AreHandedOn (boot ∷ boots)
+    → AllByRecursion (λ later. x ≤ later.window.low) (boot ∷ boots)
+below_all x boot [] low h = (low, tt)
+below_all x boot (next ∷ boots) low h =
+    (low, below_all x next boots (le_trans low (le_trans (mark_law boot.window boot.arrivals) h.0)) h.1)
+
+pub handed_law : (boots : List Boot) → AreHandedOn boots → AreMarked boots
+handed_law [] h = tt
+handed_law (boot ∷ []) h = (tt, tt)
+handed_law (boot ∷ next ∷ boots) h =
+    let bound : ℕ = latest_of (window_run boot.window boot.arrivals) in
+    let moments : List ℕ = admitted boot.window boot.arrivals in (
+      all_of (λ (later : Boot). bound ≤ later.window.low) (λ later. AllByRecursion (λ moment. moment ≤ later.window.low) moments)
+          (λ later le. all_of (λ moment. moment ≤ bound) (λ moment. moment ≤ later.window.low) (λ moment most. le_trans most le) moments (latest_law boot.window boot.arrivals))
+          (next ∷ boots) (below_all bound next boots h.0 h.1),
+      handed_law (next ∷ boots) h.1,
+    )
 
 -- ---- places
 

@@ -1,5 +1,6 @@
 -- Worked cases: windows with a maximum lead of 5 seconds, and incarnations of a process.
 use Rattle.std.specs.Prelude.{ℕ, List, [], ◌∷◌}
+use Rattle.replay_window.specs.Boots.{Boot}
 use Rattle.replay_window.specs.Lives.{Arrival, Life}
 use Rattle.replay_window.specs.Window.{WindowRecord}
 
@@ -19,3 +20,7 @@ life_at start ahead now = record { start = start; ahead = ahead; arrivals = arri
 abbrev pub life_of_two : ℕ → ℕ → ℕ → ℕ → Life
 life_of_two start ahead now later =
     record { start = start; ahead = ahead; arrivals = arrival_at now ∷ arrival_at later ∷ [] }
+
+-- a boot that began at a mark, and one arrival at a second
+abbrev pub boot_at : ℕ → ℕ → Boot
+boot_at mark now = record { window = window_at mark []; arrivals = arrival_at now ∷ [] }

@@ -1,3 +1,4 @@
+pub mod Boots
 pub mod Examples
 pub mod Lives
 pub mod Window

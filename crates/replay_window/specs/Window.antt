@@ -1,7 +1,7 @@
 -- An anti-replay window over moments in microseconds: the last admitted moments, and a mark up to which it admits no
 -- moment.
 use Rattle.std.specs.Prelude.{ℕ, ◌+◌, ◌*◌, ◌^◌, ◌≤◌, eqb, nat_le, nat_lt, max, not, ◌&&◌, Bool, if◌then◌else◌, List, [], drop, length, slice_index, Option, Some, None}
-use Rattle.std.specs.List.{insert, list_any, position}
+use Rattle.std.specs.List.{fold, insert, list_any, position}
 use Rattle.std.specs.Option.{unwrap_or}
 use Rattle.replay_window.specs.declared.refusal.Refusal.{Refusal}
 use Rattle.replay_window.specs.declared.refusal.Refusal.TheVariants.{Early, Late, Again}
@@ -29,10 +29,14 @@ behind = 60000000
 abbrev pub last_at : ℕ → ℕ → ℕ
 last_at now ahead = (now + ahead) * 1000000
 
+-- the window that begins at a mark, with a maximum lead in seconds
+abbrev pub window_above : ℕ → ℕ → WindowRecord
+window_above mark ahead = record { ahead = ahead; low = mark; seen = [] }
+
 -- The window of a process that began at a second. Its mark is at or above all moments that an earlier process admitted,
 -- if the clock was not set back and the lead is not shorter.
 abbrev pub window_from : ℕ → ℕ → WindowRecord
-window_from start ahead = record { ahead = ahead; low = last_at start ahead; seen = [] }
+window_from start ahead = window_above (last_at start ahead) ahead
 
 -- whether a moment is too far ahead of the clock, which tells a second below 2^40
 abbrev pub is_early : ℕ → ℕ → ℕ → Bool
@@ -80,3 +84,7 @@ with_seen window moment = kept_of window (with_moment window.seen moment)
 -- the window after a moment arrived
 abbrev pub window_after : WindowRecord → ℕ → ℕ → WindowRecord
 window_after window now moment = if is_fresh window now moment then with_seen window moment else window
+
+-- the greatest of the mark and the kept moments
+abbrev pub latest_of : WindowRecord → ℕ
+latest_of window = fold max window.low window.seen

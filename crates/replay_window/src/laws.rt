@@ -1,8 +1,9 @@
 ghost use Rattle.std.specs.Prelude.{◌≡◌, ◌∷◌, ◌<◌, ◌≤◌, [], List, ℕ, Some, None, eqb, false, true, is_none, replicate, map};
 ghost use Rattle.std.specs.List.{AllByRecursion, IsDistinct};
-ghost use Rattle.replay_window.specs.Examples.{life_at, life_of_two, window_at};
+ghost use Rattle.replay_window.specs.Boots.{AreHandedOn, AreMarked, Boot, admitted_over, window_run};
+ghost use Rattle.replay_window.specs.Examples.{arrival_at, boot_at, life_at, life_of_two, window_at};
 ghost use Rattle.replay_window.specs.Lives.{AreInOrder, Arrival, Life, admitted, admitted_in};
-ghost use Rattle.replay_window.specs.Window.{IsAhead, WindowRecord, is_early, is_fresh, is_timely, kept_of, refusal_of, window_from, with_moment, with_seen};
+ghost use Rattle.replay_window.specs.Window.{IsAhead, WindowRecord, is_early, is_fresh, is_timely, kept_of, latest_of, refusal_of, window_above, window_from, with_moment, with_seen};
 ghost use Rattle.replay_window.specs.declared.refusal.Refusal.TheVariants.{Again, Early, Late};
 
 /// No replay: a window admits no moment twice, and none up to its mark, in every schedule.
@@ -20,6 +21,26 @@ pub fn lives_are_one()
     ensures { (lives : List Life) → AreInOrder lives → IsDistinct eqb (admitted_in lives) }
 {}
 
+/// The latest moment: no moment that a window admitted is later than the latest one of the window afterwards.
+///
+/// The first mark of the window isn't later either.
+pub fn latest_is_a_bound()
+    ensures admitted { (window : WindowRecord) (arrivals : List Arrival) →
+        AllByRecursion (λ moment. moment ≤ latest_of (window_run window arrivals)) (admitted window arrivals) }
+    ensures mark { (window : WindowRecord) (arrivals : List Arrival) →
+        window.low ≤ latest_of (window_run window arrivals) }
+{}
+
+/// No replay over boots: no moment is admitted twice over the boots of one process.
+///
+/// The law holds if the first mark of each boot is at or above all moments that earlier ones admitted. The clock may be
+/// set back. It is enough that each boot begins at or above the latest moment of the window at the end of the boot
+/// before it.
+pub fn boots_are_one()
+    ensures once { (boots : List Boot) → AreMarked boots → IsDistinct eqb (admitted_over boots) }
+    ensures handed { (boots : List Boot) → AreHandedOn boots → AreMarked boots }
+{}
+
 /// Reasons: a window refuses a moment for a reason exactly if it doesn't admit it.
 pub fn refusals_have_reasons()
     ensures { (window : WindowRecord) (now moment : ℕ) →
@@ -32,6 +53,9 @@ pub fn windows_are_worked()
     ensures no_lead { IsAhead 0 → ⊥ }
     ensures far_lead { IsAhead 61 → ⊥ }
     ensures start { window_from 100 5 ≡ record { ahead = 5; low = 105000000; seen = [] } }
+    ensures above { window_above 7 5 ≡ record { ahead = 5; low = 7; seen = [] } }
+    ensures latest { map (λ seen. latest_of (window_at 5 seen)) ([] ∷ (4 ∷ []) ∷ (6 ∷ 9 ∷ []) ∷ (9 ∷ 6 ∷ []) ∷ [])
+        ≡ 5 ∷ 5 ∷ 9 ∷ 9 ∷ [] }
     ensures near { map (λ moment. is_timely 5 100 moment)
         (39999999 ∷ 40000000 ∷ 100000000 ∷ 105000000 ∷ 105000001 ∷ [])
         ≡ false ∷ true ∷ true ∷ true ∷ false ∷ [] }
@@ -70,4 +94,28 @@ pub fn lives_can_be_broken()
     ensures second_and_third { AreInOrder (life_at 5 1 8 ∷ life_at 8 5 12 ∷ life_at 11 5 14 ∷ []) → ⊥ }
     ensures distinct { IsDistinct eqb (15000000 ∷ 15000000 ∷ []) → ⊥ }
     ensures last_distinct { IsDistinct eqb (14000000 ∷ 15000000 ∷ 15000000 ∷ []) → ⊥ }
+{}
+
+/// Counterexamples: boots of one process that are handed on, and each premise that fails.
+///
+/// The moment of second 15 arrives in each boot, which began at a mark.
+pub fn boots_can_be_broken()
+    // A boot that begins at the latest moment of the one before admits nothing that it admitted. A mark below repeats.
+    ensures handed { AreHandedOn (boot_at 9000000 10 ∷ boot_at 15000000 10 ∷ boot_at 15000000 9 ∷ []) }
+    ensures marked { AreMarked (boot_at 9000000 10 ∷ boot_at 15000000 10 ∷ []) }
+    ensures once { admitted_over (boot_at 9000000 10 ∷ boot_at 15000000 10 ∷ []) ≡ 15000000 ∷ [] }
+    ensures lower { AreMarked (boot_at 9000000 10 ∷ boot_at 14999999 10 ∷ []) → ⊥ }
+    ensures lower_not_handed { AreHandedOn (boot_at 9000000 10 ∷ boot_at 14999999 10 ∷ []) → ⊥ }
+    ensures lower_repeats { admitted_over (boot_at 9000000 10 ∷ boot_at 14999999 10 ∷ [])
+        ≡ 15000000 ∷ 15000000 ∷ [] }
+    ensures third_lower { AreMarked (boot_at 9000000 10 ∷ boot_at 15000000 10 ∷ boot_at 14999999 10 ∷ []) → ⊥ }
+    ensures third_not_handed { AreHandedOn (boot_at 9000000 10 ∷ boot_at 15000000 10 ∷ boot_at 14999999 10 ∷ [])
+        → ⊥ }
+    // the first one admits nothing, so that it is marked in all others
+    ensures second_and_third { AreMarked (boot_at 15000000 10 ∷ boot_at 9000000 10 ∷ boot_at 14999999 10 ∷ [])
+        → ⊥ }
+    // The latest moment is that at the end of the boot.
+    ensures begun { window_run (window_at 9000000 []) (arrival_at 10 ∷ [])
+        ≡ window_at 9000000 (15000000 ∷ []) }
+    ensures refused { window_run (window_at 15000000 []) (arrival_at 10 ∷ []) ≡ window_at 15000000 [] }
 {}

@@ -2,7 +2,7 @@
 
 ghost use Rattle.std.specs.Prelude.{◌≡◌, ◌≤◌, ◌<◌, ◌^◌, length, eqb, nat_lt};
 ghost use Rattle.std.specs.List.{list_any, position};
-ghost use Rattle.replay_window.specs.Window.{IsAhead, is_early, is_fresh, is_new, is_timely, kept_of, last_at, place_of, refusal_of, window_after, window_from, with_moment, with_seen};
+ghost use Rattle.replay_window.specs.Window.{IsAhead, is_early, is_fresh, is_new, is_timely, kept_of, last_at, latest_of, place_of, refusal_of, window_above, window_after, window_from, with_moment, with_seen};
 
 use crate::ahead::Ahead;
 use crate::refusal::Refusal;
@@ -39,7 +39,7 @@ impl Model for Window {
 }
 
 /// Returns the last microsecond that may be named at the second `now` of the clock.
-fn last_at(now: u64, ahead: Ahead) -> u64
+pub fn last_at(now: u64, ahead: Ahead) -> u64
     requires { now < 2 ^ 40 }
     ensures value { result ≡ last_at now ahead }
     ensures limit { result < 2 ^ 62 }
@@ -94,11 +94,27 @@ impl Window {
         requires { start < 2 ^ 40 }
         ensures { result ≡ window_from start ahead }
     {
+        Window::above(last_at(start, ahead), ahead)
+    }
+
+    /// Returns the window that admits no moment up to `mark`, and none that is more than `ahead` ahead of the clock.
+    pub fn above(mark: u64, ahead: Ahead) -> Self
+        ensures { result ≡ window_above mark ahead }
+    {
         Window {
             ahead,
-            low: last_at(start, ahead),
+            low: mark,
             seen: ArrayVec::new(),
         }
+    }
+
+    /// Returns the latest of the mark and the kept moments. The window admitted no later moment.
+    pub fn latest(&self) -> u64
+        ensures { result ≡ latest_of self.now }
+    {
+        self.seen
+            .iter()
+            .fold(self.low, |latest, moment| latest.max(*moment))
     }
 
     /// Returns whether a moment is above the mark and was not seen.

@@ -1,5 +1,6 @@
 pub mod CameLemmas
 pub mod DrainLemmas
+pub mod LatestLemmas
 pub mod LifeLemmas
 pub mod OpenLemmas
 pub mod PortLemmas

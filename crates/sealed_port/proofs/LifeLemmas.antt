@@ -93,7 +93,7 @@ near_before gate (Comes now address bytes) steps line n = from (opened gate now 
     from None is = record { second = n.second; told = inr n.told; client = n.client; is_client = is; near = n.near }
     from (Some line') is = go line' (named line.client gate.clients) refl (sym (named_stays line.client line'.client line'.moment gate.clients) ∙ is)
 
-all_of : {X : Type 0} (P Q : X → Type 0) → ((x : X) → P x → Q x) → (xs : List X) → AllByRecursion P xs → AllByRecursion Q xs
+pub all_of : {X : Type 0} (P Q : X → Type 0) → ((x : X) → P x → Q x) → (xs : List X) → AllByRecursion P xs → AllByRecursion Q xs
 all_of P Q f [] h = tt
 all_of P Q f (x ∷ xs) h = (f x h.0, all_of P Q f xs h.1)
 
@@ -129,7 +129,7 @@ apart_from_later life line (later ∷ lives) near h =
     (never_again_in later.gate later.steps line (λ next e. inl (le_trans near.near (h.0 line.client near.second near.client next near.told near.is_client e))))
     (apart_from_later life line lives near h.1)
 
-distinct_append : (xs ys : List AskedRecord) → IsDistinct is_same xs → IsDistinct is_same ys → AllByRecursion (λ x. AllByRecursion (λ y. is_same x y ≡ false) ys) xs → IsDistinct is_same (xs ++ ys)
+pub distinct_append : (xs ys : List AskedRecord) → IsDistinct is_same xs → IsDistinct is_same ys → AllByRecursion (λ x. AllByRecursion (λ y. is_same x y ≡ false) ys) xs → IsDistinct is_same (xs ++ ys)
 unfolding IsDistinct
 distinct_append [] ys h k apart = k
 distinct_append (x ∷ xs) ys h k apart = (all_append (λ y. is_same x y ≡ false) xs ys h.0 apart.0, distinct_append xs ys h.1 k apart.1)

@@ -139,7 +139,7 @@ operator_has n (one ∷ rest) operator e = go (eqb one.holder.number n) refl (op
 abbrev pub IsAsked : List Operator → ℕ → ℕ → Type 0
 IsAsked operators number moment = (operator : Operator) → operator_named number operators ≡ Some operator → IsCovered operator.holder.window moment
 
-stays_asked : (operators : List Operator) (request : Option AsideRecord) (n m : ℕ) → IsAsked operators n m → IsAsked (operators_with request operators) n m
+pub stays_asked : (operators : List Operator) (request : Option AsideRecord) (n m : ℕ) → IsAsked operators n m → IsAsked (operators_with request operators) n m
 stays_asked operators None n m h = h
 stays_asked operators (Some request) n m h = λ operator e.
     from (operator_named n operators) refl (sym (named_with n request.number request.moment operators) ∙ e)
@@ -151,7 +151,7 @@ stays_asked operators (Some request) n m h = λ operator e.
         subst (λ (o : Operator). IsCovered o.holder.window m) (some_is _ _ e)
         (keeps_cover (eqb before.holder.number request.number) before.holder request.moment m (h before is))
 
-asked_now : (operators : List Operator) (request : AsideRecord) → IsAsked (operators_with (Some request) operators) request.number request.moment
+pub asked_now : (operators : List Operator) (request : AsideRecord) → IsAsked (operators_with (Some request) operators) request.number request.moment
 asked_now operators request = λ operator e.
     from (operator_named request.number operators) refl (sym (named_with request.number request.number request.moment operators) ∙ e)
   where
@@ -195,7 +195,7 @@ apart_from_request gate one request now address bytes seen is = elim (bool_cases
   | inr apart ↦ rw apart refl
 ]
 
-never_again : (gate : GateRecord) (steps : List Step) (one : AsideRecord) → IsAsked gate.operators one.number one.moment
+pub never_again : (gate : GateRecord) (steps : List Step) (one : AsideRecord) → IsAsked gate.operators one.number one.moment
     → AllByRecursion (λ y. is_same_request one y ≡ false) (aside_in gate steps)
 never_again gate [] one seen = tt
 never_again gate (Answers client answer ∷ steps) one seen = never_again (gate_step gate (Answers client answer)) steps one seen
@@ -360,7 +360,7 @@ apart_from_later life request (later ∷ lives) near h =
     (λ next e. inl (le_trans near.near (h.0 request.number near.second near.operator next near.told near.is_operator e))))
     (apart_from_later life request lives near h.1)
 
-distinct_append : (xs ys : List AsideRecord) → IsDistinct is_same_request xs → IsDistinct is_same_request ys
+pub distinct_append : (xs ys : List AsideRecord) → IsDistinct is_same_request xs → IsDistinct is_same_request ys
     → AllByRecursion (λ x. AllByRecursion (λ y. is_same_request x y ≡ false) ys) xs → IsDistinct is_same_request (xs ++ ys)
 unfolding IsDistinct
 distinct_append [] ys h k apart = k

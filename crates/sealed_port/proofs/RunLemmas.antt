@@ -97,7 +97,7 @@ pub covers_here : (b : Bool) (client : Client) (moment : ℕ) → b ≡ true →
 covers_here true client moment e = covers_itself client.window moment
 covers_here false client moment e = absurd cc
 
-seen_now : (gate : GateRecord) (now : Option ℕ) (address : ℕ) (line : SealedLine) → IsSeen (gate_with gate now address (Some line)) line.client line.moment
+pub seen_now : (gate : GateRecord) (now : Option ℕ) (address : ℕ) (line : SealedLine) → IsSeen (gate_with gate now address (Some line)) line.client line.moment
 seen_now gate now address line = λ client e.
     let stays : option_map (with_moment line.client line.moment) (named line.client gate.clients) ≡ Some client =
     sym (named_stays line.client line.client line.moment gate.clients) ∙ e in

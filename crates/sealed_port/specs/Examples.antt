@@ -85,6 +85,10 @@ life_at low = record { gate = gate_at (window_at low []) []; steps = Comes (Some
 abbrev pub silent_life : GateLife
 silent_life = record { gate = first_gate; steps = [] }
 
+-- an incarnation whose client's window began with a mark, without a step
+abbrev pub still_life : ℕ → GateLife
+still_life low = record { gate = gate_at (window_at low []) []; steps = [] }
+
 -- the making of the client's line
 abbrev pub line_making : Making
 line_making = record { bound = []; head = line_head; text = check_line }

@@ -6,6 +6,7 @@ pub mod Draining
 pub mod Examples
 pub mod Failures
 pub mod Gate
+pub mod Latest
 pub mod Port
 pub mod ReportWorld
 pub mod RequestExamples

@@ -51,6 +51,10 @@ operator_life low = record { gate = gate_of_operator (window_at low []) []; step
 abbrev pub silent_operator_life : GateLife
 silent_operator_life = record { gate = operator_gate; steps = [] }
 
+-- an incarnation whose operator's window began with a mark, without a step
+abbrev pub still_operator_life : ℕ → GateLife
+still_operator_life low = record { gate = gate_of_operator (window_at low []) []; steps = [] }
+
 -- the making of the operator's request
 abbrev pub request_making : Making
 request_making = record { bound = []; head = head_of_request; text = codes "STATUS" }

@@ -1,12 +1,12 @@
 //! A client that shares a key with the nodes.
 
-ghost use Rattle.std.specs.Prelude.{◌≡◌, ◌==◌, ◌<◌, ◌^◌};
-ghost use Rattle.replay_window.specs.Window.{is_fresh, refusal_of, window_from};
+ghost use Rattle.std.specs.Prelude.{◌≡◌, ◌==◌};
+ghost use Rattle.replay_window.specs.Window.{is_fresh, latest_of, refusal_of};
 ghost use Rattle.sealed_port.specs.Causes.{cause_by};
 ghost use Rattle.sealed_port.specs.Gate.{with_moment};
 
 use crate::cause::Cause;
-use replay_window::{Ahead, Refusal, Window};
+use replay_window::{Refusal, Window};
 use sealed_wire::ClientKey;
 
 /// A client that shares a key with the nodes, and the window of its admitted moments.
@@ -18,17 +18,14 @@ pub struct Client {
 }
 
 impl Client {
-    /// Returns a client with a number and a key, for a process that begins at the second `start` of the clock.
-    ///
-    /// Its window admits no moment that is more than `ahead` ahead of the clock.
-    pub fn new(number: u16, key: ClientKey, ahead: Ahead, start: u64) -> Self
-        requires { start < 2 ^ 40 }
-        ensures { result ≡ record { number = number; key = key; window = window_from start ahead } }
+    /// Returns a client with a number, a key and a window.
+    pub fn new(number: u16, key: ClientKey, window: Window) -> Self
+        ensures { result ≡ record { number = number; key = key; window = window } }
     {
         Client {
             number,
             key,
-            window: Window::new(start, ahead),
+            window,
         }
     }
 
@@ -44,6 +41,13 @@ impl Client {
         ensures { result ≡ is_fresh self.now.window now moment }
     {
         self.window.is_fresh(now, moment)
+    }
+
+    /// Returns the latest moment of the client's window.
+    pub(crate) fn latest(&self) -> u64
+        ensures { result ≡ latest_of self.now.window }
+    {
+        self.window.latest()
     }
 
     /// Returns the cause of a line with a moment, if the gate doesn't admit the line.

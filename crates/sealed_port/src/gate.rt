@@ -6,6 +6,7 @@ ghost use Rattle.std.specs.List.{list_any};
 ghost use Rattle.std.specs.Result.{result_map_both};
 ghost use Rattle.sealed_wire.specs.Sealed.{head_of, tag_at};
 ghost use Rattle.sealed_port.specs.Gate.{answer_to, answered, cause_at, gate_answered, gate_with, is_admitted, is_line, is_plain, keeper_of, named, ruling, sealed_line, with_moment};
+ghost use Rattle.sealed_port.specs.Latest.{latest_in};
 
 use crate::aside::Aside;
 use crate::asked::{Asked, AskedLines};
@@ -137,6 +138,21 @@ impl Gate {
             aside: Aside::new(),
             drains: false,
         }
+    }
+
+    /// Returns the greatest of the latest moments of all clients' and operators' windows, or 0 if there is none.
+    ///
+    /// The gate opened no later line and no later request.
+    pub fn latest(&self) -> u64
+        ensures { result ≡ latest_in self.now }
+    {
+        let clients = self
+            .clients
+            .iter()
+            .fold(0, |latest: u64, client| latest.max(client.latest()));
+        self.operators
+            .iter()
+            .fold(clients, |latest, operator| latest.max(operator.latest()))
     }
 
     /// Returns whether a client at `address` may speak plainly.

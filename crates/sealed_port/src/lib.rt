@@ -23,6 +23,7 @@ mod drain_worked;
 mod draining;
 mod failures;
 mod gate;
+mod latest_laws;
 mod laws;
 mod operator;
 mod port;
@@ -40,6 +41,10 @@ pub use drain_laws::{draining_lasts, what_is_turned_away_is_answered};
 pub use drain_worked::{drained_events_are_worked, draining_is_worked, runs_that_drain_are_worked};
 pub use failures::{Failed, Failures};
 pub use gate::{Gate, MAX_CLIENTS, SealedLine};
+pub use latest_laws::{
+    latest_moments_are_worked, marks_can_be_broken, nothing_is_opened_twice_over_boots,
+    what_is_opened_is_no_later,
+};
 pub use laws::{
     answers_are_for_their_lines, nothing_is_opened_twice, what_is_not_opened_has_a_cause,
     what_is_opened_is_sealed,

@@ -1,6 +1,7 @@
 //! An operator that shares a key with the nodes.
 
 ghost use Rattle.std.specs.Prelude.{◌≡◌, ◌==◌};
+ghost use Rattle.replay_window.specs.Window.{latest_of};
 ghost use Rattle.sealed_port.specs.Requests.{operator_with};
 
 use crate::client::Client;
@@ -26,6 +27,13 @@ impl Operator {
         ensures { result ≡ (self.now.holder.number == number) }
     {
         self.holder.is_named(number)
+    }
+
+    /// Returns the latest moment of the operator's window.
+    pub(crate) fn latest(&self) -> u64
+        ensures { result ≡ latest_of self.now.holder.window }
+    {
+        self.holder.latest()
     }
 
     /// Adds a moment to the operator's window, if the operator has the number `number`.

@@ -10,6 +10,7 @@ ghost use Rattle.sealed_port.specs.Aside.{oldest};
 ghost use Rattle.sealed_port.specs.Draining.{busied, gate_busied, gate_drained};
 ghost use Rattle.sealed_port.specs.Requests.{gate_aside, gate_taken, reported, request_cause, requested};
 ghost use Rattle.sealed_port.specs.Setup.{AreHeard, gate_setup, sealed_setup};
+ghost use Rattle.sealed_port.specs.Latest.{latest_in};
 ghost use Rattle.sealed_port.specs.Port.{Handles, Polls, Receives, TakesIn, TakesLine, gate_offered, node_number, offer_of, offered, sealed_from, stand_in};
 
 use crate::aside::SetAside;
@@ -117,6 +118,13 @@ impl<P: Port + Drop, C: Clock + Drop> SealedPort<P, C> {
     {
         let SealedPort { port, .. } = self;
         port
+    }
+
+    /// Returns the latest moment of the gate's windows. The port opened no later line and no later request.
+    pub fn latest(&self) -> u64
+        ensures { result ≡ latest_in self.now.gate }
+    {
+        self.gate.latest()
     }
 
     /// Sets aside the request in a datagram. Returns an empty datagram of member 0, or None if the gate doesn't open

@@ -170,17 +170,17 @@ setup_with node clients operators plain most members =
     behind_gate (record { node = node; clients = clients; operators = operators; plain = plain; most = most }) (setup_of true false members)
 
 -- the port behind the front of the lines is the port for these lines
-setup_is : (node : ℕ) (members : List SocketAddrV4) (given : ClientLines) (front : Front) → IsFrontOf node given front
+setup_is : (node : ℕ) (opened : Option ℕ) (members : List SocketAddrV4) (given : ClientLines) (front : Front) → IsFrontOf node opened given front
     → setup_behind members front ≡ setup_for node members given
-setup_is node members lines.Anybody Anybody is = refl
-setup_is node members lines.Anybody ThisMachine is = absurd is
-setup_is node members lines.Anybody (Gate gate) is = absurd is
-setup_is node members lines.ThisMachine Anybody is = absurd is
-setup_is node members lines.ThisMachine ThisMachine is = refl
-setup_is node members lines.ThisMachine (Gate gate) is = absurd is
-setup_is node members (lines.Of clients) Anybody is = absurd is
-setup_is node members (lines.Of clients) ThisMachine is = absurd is
-setup_is node members (lines.Of clients) (Gate gate) is =
+setup_is node opened members lines.Anybody Anybody is = refl
+setup_is node opened members lines.Anybody ThisMachine is = absurd is
+setup_is node opened members lines.Anybody (Gate gate) is = absurd is
+setup_is node opened members lines.ThisMachine Anybody is = absurd is
+setup_is node opened members lines.ThisMachine ThisMachine is = refl
+setup_is node opened members lines.ThisMachine (Gate gate) is = absurd is
+setup_is node opened members (lines.Of clients) Anybody is = absurd is
+setup_is node opened members (lines.Of clients) ThisMachine is = absurd is
+setup_is node opened members (lines.Of clients) (Gate gate) is =
     ap (λ (one : GateRecord). behind_gate (gate_setup one) (setup_of true false members)) is.2
     ∙ ap (λ (all : List Keyed). setup_with node all (map keyed_in (map (operator_from clients.ahead is.0) clients.operators.items))
     clients.plain.items clients.failures members)
@@ -190,12 +190,12 @@ setup_is node members (lines.Of clients) (Gate gate) is =
 
 -- a run that is served over one setup is served over the same one
 pub served_over : {Serves : Option (List PortEvent) → Result Served ServeFault → Type 0} {result : Result Served Fault} {me number : ℕ} {made members : List SocketAddrV4}
-    (given : ClientLines) (front : Front) → made ≡ members → IsFrontOf me given front → me ≡ number
+    (opened : Option ℕ) (given : ClientLines) (front : Front) → made ≡ members → IsFrontOf me opened given front → me ≡ number
     → IsServedThrough Serves (setup_behind made front) result → IsServedThrough Serves (setup_for number members given) result
-served_over {Serves} {result} {me} {number} {made} {members} given front same is who served =
+served_over {Serves} {result} {me} {number} {made} {members} opened given front same is who served =
     subst (λ (s : Setup). IsServedThrough Serves s result)
     (ap (λ (all : List SocketAddrV4). setup_behind all front) same
-    ∙ setup_is number members given front (subst (λ (n : ℕ). IsFrontOf n given front) who is)) served
+    ∙ setup_is number opened members given front (subst (λ (n : ℕ). IsFrontOf n opened given front) who is)) served
 
 -- a responder over something of whose answers nothing is told
 desk_unasked : (answers : ℕ → Bool → Bool → Type 0) (left : ℕ) (waits ends : Bool) → ResponderAnswers answers left waits ends

@@ -215,7 +215,7 @@ fn serve_over<
 /// turns, or until `until` ends them. Returns `until` too.
 ///
 /// The socket is bound if `socket` isn't yet, and stays bound. Nothing is taken from a member that went back, as long
-/// as `socket` is kept.
+/// as `socket` is kept. No sealed line is opened up to the latest moment that the last node over `socket` opened.
 ///
 /// The store is opened as [`open_named_store`] does for the users file with this text. If it has no room for the new
 /// rows, the node is served for the other ones, and the log has a line of each row that is left out before its first

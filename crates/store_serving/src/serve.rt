@@ -204,7 +204,8 @@ fn serve_front<S: FloorStore, N: TimeSource, W: Write, U: Attend<S>>(
 ///
 /// The responder knows the tokens of `book`. It tells what `info` says of the node, and the reports of `source`.
 /// Without operators, which `is_asked` tells, nobody asks it.
-/// Returns `until` too. `socket` keeps which members went back, and in which boots they were heard.
+/// Returns `until` too. `socket` keeps which members went back, and in which boots they were heard. It also keeps the
+/// latest moment that the port opened.
 ///
 /// # Errors
 /// Returns the errors of [`serve_front`].
@@ -252,6 +253,8 @@ fn serve_responder<
             socket.gone_back = gone_back;
             let heard = until.heard;
             socket.heard = heard;
+            let opened = until.opened;
+            socket.opened = opened;
             Ok((served, until.attendant.into_until()))
         }
         Err(fault) => Err(fault),
@@ -302,7 +305,7 @@ pub(crate) fn serve_opened<
     let address = members[usize::from(place.me()) - 1];
     let port = UdpPort::new(socket.handle(outside, address)?, members, outside);
     let is_asked = have_operators(&lines);
-    let front = front_of(alloc, place.me(), lines, outside)?;
+    let front = front_of(alloc, place.me(), lines, socket.opened, outside)?;
     serve_responder(
         alloc, node, port, speech, is_asked, outside, front, turns, info, book, source, socket,
         until, log, writer,
