@@ -29,3 +29,5 @@ pub mod Seeds
 pub mod Openings
 pub mod OneDevice
 pub mod Writes
+pub mod Keeps
+pub mod Noted

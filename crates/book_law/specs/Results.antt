@@ -1,6 +1,6 @@
 -- The results of each token at each node, from the steps whose changes its store kept. All lists have the newest first.
 -- The processes may have any numbers for the token, and any books and limits.
-use Rattle.std.specs.Prelude.{ℕ, suc, ◌==◌, true, ◌&&◌, if◌then◌else◌, List, [], ◌∷◌, length, Option, Some, None}
+use Rattle.std.specs.Prelude.{◌≡◌, ℕ, suc, ◌==◌, true, ◌&&◌, if◌then◌else◌, List, [], ◌∷◌, length, Option, Some, None}
 use Rattle.admit_core.specs.Throttle.{Accepted, Result}
 use Rattle.vote_core.specs.Books.{is_number, number_of}
 use Rattle.oath_node.specs.Machine.{Made, NodeState}
@@ -65,3 +65,14 @@ results_after setting first (action ∷ actions) state results =
 -- the results of a token at a node in a history, since the latest replacement of the node's store
 abbrev pub results_in : Setting → List Action → ℕ → ℕ → List Result
 results_in setting history = results_after setting 0 history (first_state setting) (λ node token. [])
+
+-- the action does not unlock the token at the node
+abbrev pub LeavesGate : ℕ → ℕ → Action → Type 0
+LeavesGate node token (Unlocks at unlocked) = node ≡ at → unlocked ≡ token → ⊥
+LeavesGate node token (OpensGate at unlocked) = node ≡ at → unlocked ≡ token → ⊥
+LeavesGate node token action = Unit {0}
+
+-- none of the actions does
+abbrev pub LeaveGate : ℕ → ℕ → List Action → Type 0
+LeaveGate node token [] = Unit {0}
+LeaveGate node token (action ∷ actions) = LeavesGate node token action × LeaveGate node token actions

@@ -2,13 +2,14 @@
 
 ghost use Rattle.std.specs.Prelude.{◌≡◌, ◌-◌, ℕ, suc, [], ◌∷◌, ◌++◌, List, true, false, map, None, codes};
 ghost use Rattle.admit_core.specs.Throttle.{Accepted as Passed};
+ghost use Rattle.cluster_sim.specs.Results.{results_in as results_noted};
 ghost use Rattle.cluster_sim.specs.World.{note_anew};
 ghost use Rattle.oath_node.specs.Machine.{Tick, opened_node};
 ghost use Rattle.vote_core.specs.Schedule.{last_boot};
 ghost use Rattle.book_law.specs.ActionExamples.{answer_out, floor_comes, floor_out, loses_two, made_anew, makes_two, open_machine, open_with, tells_both, uneven_rows};
 ghost use Rattle.book_law.specs.Examples.{alone, maple_first, maple_line, old_floor, shut_rows, silver_alone, silver_row, three, three_with_old, two_rows};
-ghost use Rattle.book_law.specs.Lives.{Down, Enrols, FailsToOpen, Loses, Offers, Opens, Raises, Remakes, Stops, StopsIn, Takes, ToPeer, Unlocks, Up, answers_among, first_state, floor_in, floor_of, lost_after, made_boot, notes_by, offers_by, outputs_of_step, process_after, process_cut, process_half_opened, process_opened, seen_in, state_of, store_at, store_in_next_boot, store_under, store_with_rows};
-ghost use Rattle.book_law.specs.Results.{results_in};
+ghost use Rattle.book_law.specs.Lives.{Down, Enrols, FailsToOpen, Loses, Offers, Opens, OpensGate, Raises, Remakes, Stops, StopsIn, Takes, ToPeer, Unlocks, Up, answers_among, first_state, floor_in, floor_of, lost_after, made_boot, notes_by, offers_by, outputs_of_step, process_after, process_cut, process_half_opened, process_opened, seen_in, state_of, store_at, store_in_next_boot, store_under, store_with_rows};
+ghost use Rattle.book_law.specs.Results.{LeaveGate, results_in};
 ghost use Rattle.book_law.specs.Uses.{first_store};
 
 /// Worked cases.
@@ -58,6 +59,11 @@ pub fn actions_are_worked()
     ensures unlocking { results_in alone (Enrols 1 0 0 ∷ Unlocks 1 0 ∷ []) 1 0 ≡ Passed ∷ [] }
     ensures unlocking_of_another { results_in alone (Enrols 1 0 0 ∷ Enrols 1 1 0 ∷ Unlocks 1 0 ∷ []) 1 1 ≡ [] }
     ensures unlocking_elsewhere { results_in three (Enrols 1 0 0 ∷ Unlocks 1 0 ∷ []) 2 0 ≡ [] }
+    // An unlocking ends the count of failures, and has no note.
+    ensures unlocking_is_no_note { results_noted (state_of alone (Enrols 1 0 0 ∷ Unlocks 1 0 ∷ [])).notes 1 0 ≡ [] }
+    ensures leaves_the_gate { LeaveGate 1 0 (Unlocks 2 0 ∷ Unlocks 1 1 ∷ OpensGate 2 0 ∷ OpensGate 1 1 ∷ []) }
+    ensures unlocks_the_gate { LeaveGate 1 0 (Stops 1 ∷ Unlocks 1 0 ∷ []) → ⊥ }
+    ensures opens_the_gate { LeaveGate 1 0 (Stops 1 ∷ OpensGate 1 0 ∷ []) → ⊥ }
     // An action changes its own node alone. A floor is the one before the action.
     ensures own_node { (state_of three (Enrols 1 0 4 ∷ [])).processes 2 ≡ Down (first_store three 2) }
     ensures stranger { (state_of alone (Enrols 2 0 4 ∷ [])).processes 2 ≡ Down (first_store alone 2) }

@@ -7,6 +7,7 @@ ghost use Rattle.client_lines.specs.declared.answer.Outcome.TheVariants.{Accepte
 ghost use Rattle.client_lines.specs.declared.answer.Reason.TheVariants.{Invalid, Unknown};
 ghost use Rattle.cluster_sim.specs.Answered.{IsOk};
 ghost use Rattle.cluster_sim.specs.Examples.{told_outcome};
+ghost use Rattle.cluster_sim.specs.Results.{results_in as results_noted};
 ghost use Rattle.cluster_sim.specs.World.{Answer};
 ghost use Rattle.datagram_port.specs.Port.{Offered, PortEvent};
 ghost use Rattle.datagram_port.specs.declared.port.Sender.TheVariants.{Client as ToLine};
@@ -34,7 +35,7 @@ ghost use Rattle.book_law.specs.Floors.{IsTakenInAction, TellsHeld, WasHeld, Was
 ghost use Rattle.book_law.specs.Justified.{IsJustifiedInAction, JustifiesAll, drift_in, drift_of};
 ghost use Rattle.book_law.specs.Lives.{Action, Down, ToClient, ToPeer, Enrols, FailsToOpen, IsHistory, Loses, Offers, Opens, Output, Raises, Remakes, Setting, Stops, StopsIn, Store, Takes, Terms, Unlocks, OpensGate, Up, accepted_in, answered_in, do_fit, floor_in, floor_of, number_to_unlock, process_after, rows_under, seen_in, state_of, store_at, store_in_next_boot, store_raised, store_under, store_unlocked, store_with_rows};
 ghost use Rattle.book_law.specs.Promises.{AnswerTruly, BelongsToAcceptance, IsAskedInAction, IsSaidInAction};
-ghost use Rattle.book_law.specs.Results.{results_in};
+ghost use Rattle.book_law.specs.Results.{LeaveGate, results_in};
 ghost use Rattle.book_law.specs.Stretches.{ActsAs, AreServed, Stretch, token_cleared, tokens_cleared};
 ghost use Rattle.book_law.specs.Uses.{AreAllUses, AreOffersOfUses, AreServing, AreUses, HasUses, IsHistoryOf, IsProcess, IsSeatedMember, IsTrueReply, Serves as ServesStore, StoreUse, TakesAndOffers, ToClientOwn, ToPeerOwn, WasProcess, WasProcessIn, Writes, first_store, inputs_at, named_output, offer_of_output, offers_recorded, own_offers, own_process, store_after};
 
@@ -73,6 +74,15 @@ pub fn books_are_safe()
     rulings_have_grounds();
     gate_keeps_throttle();
     failures_are_spaced();
+}
+
+/// Results: if nothing unlocks the token at the node, its results there are the acceptances and failures of the notes.
+pub fn results_are_noted()
+    ensures { (setting : Setting) (history : List Action) (node token : ℕ) → IsHistory setting history
+        → LeaveGate node token history
+        → results_in setting history node token ≡ results_noted (state_of setting history).notes node token }
+{
+    rulings_have_grounds();
 }
 
 /// Told floors: a floor that its teller's store held raises no floor above all that stores held.

@@ -14,8 +14,8 @@ pub use action_laws::{actions_are_worked, losses_are_worked};
 pub use laws::{
     answers_are_worked, answers_can_be_broken, books_are_safe, books_are_worked,
     books_can_be_broken, grounds_are_worked, held_floors_raise_no_further, histories_keep_uses,
-    opened_gates_are_actions, served_nodes_are_processes, stretches_are_processes,
-    told_floors_can_be_broken, uses_are_worked, uses_can_be_broken,
+    opened_gates_are_actions, results_are_noted, served_nodes_are_processes,
+    stretches_are_processes, told_floors_can_be_broken, uses_are_worked, uses_can_be_broken,
 };
 pub use part_laws::{
     parts_are_worked, parts_can_be_broken, stretches_are_worked, stretches_can_be_broken,

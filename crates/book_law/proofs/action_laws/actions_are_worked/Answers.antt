@@ -1,5 +1,5 @@
 -- Each is computed.
-use Rattle.std.proofs.Common.{refl}
+use Rattle.std.proofs.Common.{◌≡◌, refl, arith}
 use Rattle.vote_core.specs.Voting.{raise, on_floor, on_message, tick}
 use Rattle.oath_node.specs.Machine.{made_by_proposal, made_by_ruling, made_by_datagram, made_while_running, made_by_event}
 use Rattle.book_law.specs.Lives.{state_after, state_after_action}
@@ -141,3 +141,19 @@ returns-clause-none_is_lost c = refl
 pub returns-clause-sent_before : goal.returns-clause-sent_before
 unfolding state_after state_after_action results_after results_after_action made_by_event made_while_running made_by_datagram made_by_ruling made_by_proposal raise on_floor on_message tick
 returns-clause-sent_before c = refl
+
+pub returns-clause-unlocking_is_no_note : goal.returns-clause-unlocking_is_no_note
+unfolding state_after state_after_action
+returns-clause-unlocking_is_no_note c = refl
+
+pub returns-clause-leaves_the_gate : goal.returns-clause-leaves_the_gate
+returns-clause-leaves_the_gate c = (
+  (λ (at : 1 ≡ 2) same. absurd (omega (arith, at))),
+  ((λ at (same : 1 ≡ 0). absurd (omega (arith, same))), ((λ (at : 1 ≡ 2) same. absurd (omega (arith, at))), ((λ at (same : 1 ≡ 0). absurd (omega (arith, same))), tt))),
+)
+
+pub returns-clause-unlocks_the_gate : goal.returns-clause-unlocks_the_gate
+returns-clause-unlocks_the_gate c h = h.1.0 refl refl
+
+pub returns-clause-opens_the_gate : goal.returns-clause-opens_the_gate
+returns-clause-opens_the_gate c h = h.1.0 refl refl
