@@ -1,9 +1,7 @@
-//! The tests of `floor_port` and `named_port`, with `named_wire`, by their public calls alone. They are a crate of their
-//! own, since a crate is proved again with its tests.
+//! The tests of `named_port`, with `named_wire`, by their public calls alone. They are a crate of their own, since a
+//! crate is proved again with its tests.
 #![tactic(auto)]
 
-#[cfg(test)]
-mod floor_port_tests;
 #[cfg(test)]
 mod named_port_tests;
 #[cfg(test)]
