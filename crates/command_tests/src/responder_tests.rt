@@ -8,7 +8,7 @@ use node_serving::Attend;
 use oath_node::{Never, Node, NodeFault, StoreReading};
 use operator_text::Report;
 use otp_core::{Next, Settings};
-use replay_window::Ahead;
+use replay_window::{Ahead, Window};
 use sealed_port::{Client, Failures, Gate, Operator, SealedPort};
 use sealed_wire::{ClientKey, Head, Kind, MAX_SEALED_LEN, Right, seal};
 use std::alloc::Global;
@@ -113,7 +113,8 @@ fn port<'a>(
 ) -> Result<SealedPort<ListPort<'a>, ListClock<'a>>, Fail> {
     let key = ClientKey::new(&[0; 32]).ok_or("a key")?;
     let mut operators = Vec::new(alloc);
-    operators.push(Operator::new(Client::new(258, key, Ahead::default(), 0), Right::Reader))?;
+    let reader = Client::new(258, key, Window::new(0, Ahead::default()));
+    operators.push(Operator::new(reader, Right::Reader))?;
     let gate = Gate::new(
         2,
         Vec::new(alloc),
