@@ -1,6 +1,6 @@
 //! The tests of what is written for people, by the public calls alone: `log_writer`, `node_log`, `oathd_asking`,
-//! `oathd_lines`, `oathd_sim`, `operator_text` and `status_text`. They are a crate of their own, since a crate is proved
-//! again with its tests.
+//! `oathd_lines`, `oathd_sim`, `operator_text` and `status_text`. They are a crate of their own, since a crate is
+//! proved again with its tests.
 #![tactic(auto)]
 
 #[cfg(test)]

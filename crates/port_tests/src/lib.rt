@@ -1,5 +1,5 @@
-//! The tests of `bundle_port`, `count_port` and `sealed_port`, by their public calls alone. They are a crate of their own,
-//! since a crate is proved again with its tests.
+//! The tests of `bundle_port`, `count_port` and `sealed_port`, by their public calls alone. They are a crate of their
+//! own, since a crate is proved again with its tests.
 #![tactic(auto)]
 
 #[cfg(test)]
